@@ -1,2 +1,6 @@
+pub mod Fraction
+pub mod FloorLaws
 pub mod Ledger
+pub mod QuotientLaws
 pub mod Rounding
+pub mod Sums

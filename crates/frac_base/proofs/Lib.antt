@@ -1,0 +1,4 @@
+pub mod Ring
+pub mod WholeRing
+pub mod WholeTerms
+pub mod Respect

@@ -1,0 +1,13 @@
+pub mod FractionRing
+pub mod FractionTerms
+pub mod Gaps
+pub mod Order
+pub mod Linear
+pub mod Sizes
+pub mod Extremes
+pub mod Quotients
+pub mod Sums
+pub mod Powers
+pub mod Signs
+pub mod Floors
+pub mod QuotientFacts
