@@ -6,7 +6,7 @@ use Rattle.std.proofs.lemmas.Int.{ints}
 use lib.IntN.{+ℤ_comm, +ℤ_assoc, +ℤ_idr, +ℤ_invr, *ℤ_comm}
 use lib.Dec.{eqb}
 use borrow.Author.Differences.{up, down, same_in, product_is, sum_is_lem}
-use Rattle.frac_base.proofs.Ring.{RingOver, Expr, ◌⊖◌, norm, all_nil, eval, solve, pick}
+use Rattle.frac_base.proofs.Ring.{RingOver, Expr, ◌⊖◌, normal_form, all_nil, eval, solve, pick}
 
 up_mul : (a b : ℤ) → up (a *ℤ b) ≡ up a * up b + down a * down b
 up_mul a b = (product_is a b).0
@@ -42,35 +42,35 @@ is_zero-zero z h = grind (arith, ints)
 
 abbrev pub whole_ring : RingOver
 whole_ring = record {
-  R = ℤ;
-  o = pos 0;
-  u = pos 1;
+  Element = ℤ;
+  nil = pos 0;
+  one = pos 1;
   add = ◌+ℤ◌;
   mul = ◌*ℤ◌;
   neg = neg_ℤ;
   add_comm = +ℤ_comm;
   add_assoc = +ℤ_assoc;
-  add_o = +ℤ_idr;
+  add_nil = +ℤ_idr;
   add_neg = +ℤ_invr;
   mul_comm = *ℤ_comm;
   mul_assoc = mul_assoc;
-  mul_u = mul_one;
+  mul_one = mul_one;
   mul_add = mul_add;
-  K = ℤ;
-  ku = pos 1;
-  kneg1 = negsuc 0;
-  kadd = ◌+ℤ◌;
-  kmul = ◌*ℤ◌;
+  Numeral = ℤ;
+  numeral_one = pos 1;
+  numeral_minus_one = negsuc 0;
+  numeral_add = ◌+ℤ◌;
+  numeral_mul = ◌*ℤ◌;
   is_nil = is_zero;
   value = λ k. k;
-  value_u = refl;
-  value_neg1 = refl;
+  value_one = refl;
+  value_minus_one = refl;
   value_add = λ k l. refl;
   value_mul = λ k l. refl;
   value_nil = is_zero-zero;
 }
 
 -- two expressions with one normal form have one value
-pub same_value : (xs : List ℤ) (e f : Expr ℤ) → all_nil whole_ring (norm whole_ring (e ⊖ f)) ≡ true
+pub same_value : (xs : List ℤ) (e f : Expr ℤ) → all_nil whole_ring (normal_form whole_ring (e ⊖ f)) ≡ true
     → eval whole_ring (pick (pos 0) xs) e ≡ eval whole_ring (pick (pos 0) xs) f
 same_value xs e f h = solve whole_ring (pick (pos 0) xs) e f h

@@ -3,7 +3,7 @@
 use Rattle.std.specs.Prelude.{◌≡◌, ℕ, ℤ, pos, ◌+ℤ◌, ◌-ℤ◌, ◌*ℤ◌, neg_ℤ, Bool, true, List, ◌∷◌}
 use Rattle.std.proofs.Common.{refl, ap, sym, ◌∙◌}
 use mathlib.Core.Path.{ap₂}
-use Rattle.frac_base.proofs.Ring.{Expr, con, var, ◌⊕◌, ◌⊗◌, ◌⊖◌, minus, norm, all_nil, eval, pick}
+use Rattle.frac_base.proofs.Ring.{Expr, con, var, ◌⊕◌, ◌⊗◌, ◌⊖◌, minus, normal_form, all_nil, eval, pick}
 use Rattle.frac_base.proofs.WholeRing.{whole_ring, same_value}
 
 -- the way in which a whole number is written over a list of variables
@@ -17,9 +17,12 @@ pub data Term : List ℤ → ℤ → Type 0 where
   v6 : {a x0 x1 x2 x3 x4 x5 : ℤ} {xs : List ℤ} → Term (x0 ∷ x1 ∷ x2 ∷ x3 ∷ x4 ∷ x5 ∷ a ∷ xs) a
   v7 : {a x0 x1 x2 x3 x4 x5 x6 : ℤ} {xs : List ℤ} → Term (x0 ∷ x1 ∷ x2 ∷ x3 ∷ x4 ∷ x5 ∷ x6 ∷ a ∷ xs) a
   v8 : {a x0 x1 x2 x3 x4 x5 x6 x7 : ℤ} {xs : List ℤ} → Term (x0 ∷ x1 ∷ x2 ∷ x3 ∷ x4 ∷ x5 ∷ x6 ∷ x7 ∷ a ∷ xs) a
-  v9 : {a x0 x1 x2 x3 x4 x5 x6 x7 x8 : ℤ} {xs : List ℤ} → Term (x0 ∷ x1 ∷ x2 ∷ x3 ∷ x4 ∷ x5 ∷ x6 ∷ x7 ∷ x8 ∷ a ∷ xs) a
-  v10 : {a x0 x1 x2 x3 x4 x5 x6 x7 x8 x9 : ℤ} {xs : List ℤ} → Term (x0 ∷ x1 ∷ x2 ∷ x3 ∷ x4 ∷ x5 ∷ x6 ∷ x7 ∷ x8 ∷ x9 ∷ a ∷ xs) a
-  v11 : {a x0 x1 x2 x3 x4 x5 x6 x7 x8 x9 x10 : ℤ} {xs : List ℤ} → Term (x0 ∷ x1 ∷ x2 ∷ x3 ∷ x4 ∷ x5 ∷ x6 ∷ x7 ∷ x8 ∷ x9 ∷ x10 ∷ a ∷ xs) a
+  v9 : {a x0 x1 x2 x3 x4 x5 x6 x7 x8 : ℤ} {xs : List ℤ}
+      → Term (x0 ∷ x1 ∷ x2 ∷ x3 ∷ x4 ∷ x5 ∷ x6 ∷ x7 ∷ x8 ∷ a ∷ xs) a
+  v10 : {a x0 x1 x2 x3 x4 x5 x6 x7 x8 x9 : ℤ} {xs : List ℤ}
+      → Term (x0 ∷ x1 ∷ x2 ∷ x3 ∷ x4 ∷ x5 ∷ x6 ∷ x7 ∷ x8 ∷ x9 ∷ a ∷ xs) a
+  v11 : {a x0 x1 x2 x3 x4 x5 x6 x7 x8 x9 x10 : ℤ} {xs : List ℤ}
+      → Term (x0 ∷ x1 ∷ x2 ∷ x3 ∷ x4 ∷ x5 ∷ x6 ∷ x7 ∷ x8 ∷ x9 ∷ x10 ∷ a ∷ xs) a
   num : {xs : List ℤ} (n : ℕ) → Term xs (pos n)
   add : {xs : List ℤ} {a b : ℤ} → Term xs a → Term xs b → Term xs (a +ℤ b)
   sub : {xs : List ℤ} {a b : ℤ} → Term xs a → Term xs b → Term xs (a -ℤ b)
@@ -72,7 +75,7 @@ pub data Sides (xs : List ℤ) : ℤ → ℤ → Type 0 where
 pub ruleset terms = (sides, v0, v1, v2, v3, v4, v5, v6, v7, v8, v9, v10, v11, num, sub, add, mul, neg)
 
 abbrev pub is_same : {xs : List ℤ} {a b : ℤ} → Sides xs a b → Bool
-is_same (sides s t) = all_nil whole_ring (norm whole_ring (expr s ⊖ expr t))
+is_same (sides s t) = all_nil whole_ring (normal_form whole_ring (expr s ⊖ expr t))
 
 -- an identity that holds in each commutative ring
 pub ring : (xs : List ℤ) {a b : ℤ} (w : Sides xs a b) → is_same w ≡ true → a ≡ b

@@ -9,7 +9,8 @@ pub greater_cases : (x y : Fraction) → ((x ≤ℚ y) × greater x y ≡ y) ⊎
 unfolding greater
 greater_cases x y = cases (is_not_negative (y -ℚ x)) refl
   where
-    cases : (b : Bool) → is_not_negative (y -ℚ x) ≡ b → ((x ≤ℚ y) × cond b y x ≡ y) ⊎ ((y ≤ℚ x) × cond b y x ≡ x)
+    cases : (b : Bool) → is_not_negative (y -ℚ x) ≡ b
+        → ((x ≤ℚ y) × cond b y x ≡ y) ⊎ ((y ≤ℚ x) × cond b y x ≡ x)
     cases true e = inl (record { le = e }, refl)
     cases false e = inr (le_of_not_le (λ h. cc (h.le, e)), refl)
 
@@ -30,7 +31,8 @@ pub lesser_cases : (x y : Fraction) → ((x ≤ℚ y) × lesser x y ≡ x) ⊎ (
 unfolding lesser
 lesser_cases x y = cases (is_not_negative (y -ℚ x)) refl
   where
-    cases : (b : Bool) → is_not_negative (y -ℚ x) ≡ b → ((x ≤ℚ y) × cond b x y ≡ x) ⊎ ((y ≤ℚ x) × cond b x y ≡ y)
+    cases : (b : Bool) → is_not_negative (y -ℚ x) ≡ b
+        → ((x ≤ℚ y) × cond b x y ≡ x) ⊎ ((y ≤ℚ x) × cond b x y ≡ y)
     cases true e = inl (record { le = e }, refl)
     cases false e = inr (le_of_not_le (λ h. cc (h.le, e)), refl)
 
@@ -48,31 +50,40 @@ lesser_mono {x} {y} {z} {w} h k =
     le_lesser z w (le_trans (lesser_le_left x y) h) (le_trans (lesser_le_right x y) k)
 
 -- a product with a number of an interval is at most the greater of the products with its ends
-pub product_le_ends : {a b x : Fraction} (y : Fraction) → a ≤ℚ x → x ≤ℚ b → x *ℚ y ≤ℚ greater (a *ℚ y) (b *ℚ y)
+pub product_le_ends : {a b x : Fraction} (y : Fraction) → a ≤ℚ x → x ≤ℚ b
+    → x *ℚ y ≤ℚ greater (a *ℚ y) (b *ℚ y)
 product_le_ends {a} {b} {x} y h k = elim (sign_cases y) [
-  | inl s ↦ le_trans (linear (a ∷ b ∷ x ∷ y ∷ []) (k ⊠ s) (hlevel claims) refl) (le_greater_right (a *ℚ y) (b *ℚ y))
-  | inr s ↦ le_trans (linear (a ∷ b ∷ x ∷ y ∷ []) (h ⊠ s) (hlevel claims) refl) (le_greater_left (a *ℚ y) (b *ℚ y))
+  | inl s ↦ le_trans (linear (a ∷ b ∷ x ∷ y ∷ []) (k ⊠ s) (hlevel claims) refl)
+      (le_greater_right (a *ℚ y) (b *ℚ y))
+  | inr s ↦ le_trans (linear (a ∷ b ∷ x ∷ y ∷ []) (h ⊠ s) (hlevel claims) refl)
+      (le_greater_left (a *ℚ y) (b *ℚ y))
 ]
 
 pub ends_le_product : {a b x : Fraction} (y : Fraction) → a ≤ℚ x → x ≤ℚ b → lesser (a *ℚ y) (b *ℚ y) ≤ℚ x *ℚ y
 ends_le_product {a} {b} {x} y h k = elim (sign_cases y) [
-  | inl s ↦ le_trans (lesser_le_left (a *ℚ y) (b *ℚ y)) (linear (a ∷ b ∷ x ∷ y ∷ []) (h ⊠ s) (hlevel claims) refl)
-  | inr s ↦ le_trans (lesser_le_right (a *ℚ y) (b *ℚ y)) (linear (a ∷ b ∷ x ∷ y ∷ []) (k ⊠ s) (hlevel claims) refl)
+  | inl s ↦ le_trans (lesser_le_left (a *ℚ y) (b *ℚ y))
+      (linear (a ∷ b ∷ x ∷ y ∷ []) (h ⊠ s) (hlevel claims) refl)
+  | inr s ↦ le_trans (lesser_le_right (a *ℚ y) (b *ℚ y))
+      (linear (a ∷ b ∷ x ∷ y ∷ []) (k ⊠ s) (hlevel claims) refl)
 ]
 
 turned : {c d y : Fraction} (z : Fraction) → c ≤ℚ y → y ≤ℚ d → z *ℚ y ≤ℚ greater (z *ℚ c) (z *ℚ d)
 turned {c} {d} {y} z h k = elim (sign_cases z) [
-  | inl s ↦ le_trans (linear (c ∷ d ∷ y ∷ z ∷ []) (k ⊠ s) (hlevel claims) refl) (le_greater_right (z *ℚ c) (z *ℚ d))
-  | inr s ↦ le_trans (linear (c ∷ d ∷ y ∷ z ∷ []) (h ⊠ s) (hlevel claims) refl) (le_greater_left (z *ℚ c) (z *ℚ d))
+  | inl s ↦ le_trans (linear (c ∷ d ∷ y ∷ z ∷ []) (k ⊠ s) (hlevel claims) refl)
+      (le_greater_right (z *ℚ c) (z *ℚ d))
+  | inr s ↦ le_trans (linear (c ∷ d ∷ y ∷ z ∷ []) (h ⊠ s) (hlevel claims) refl)
+      (le_greater_left (z *ℚ c) (z *ℚ d))
 ]
 
 turned_down : {c d y : Fraction} (z : Fraction) → c ≤ℚ y → y ≤ℚ d → lesser (z *ℚ c) (z *ℚ d) ≤ℚ z *ℚ y
 turned_down {c} {d} {y} z h k = elim (sign_cases z) [
-  | inl s ↦ le_trans (lesser_le_left (z *ℚ c) (z *ℚ d)) (linear (c ∷ d ∷ y ∷ z ∷ []) (h ⊠ s) (hlevel claims) refl)
-  | inr s ↦ le_trans (lesser_le_right (z *ℚ c) (z *ℚ d)) (linear (c ∷ d ∷ y ∷ z ∷ []) (k ⊠ s) (hlevel claims) refl)
+  | inl s ↦ le_trans (lesser_le_left (z *ℚ c) (z *ℚ d))
+      (linear (c ∷ d ∷ y ∷ z ∷ []) (h ⊠ s) (hlevel claims) refl)
+  | inr s ↦ le_trans (lesser_le_right (z *ℚ c) (z *ℚ d))
+      (linear (c ∷ d ∷ y ∷ z ∷ []) (k ⊠ s) (hlevel claims) refl)
 ]
 
--- a product of numbers of two intervals lies between the least and the greatest of the four products of their ends
+-- a product of numbers of two intervals lies between the least and the greatest of the products of their ends
 pub product_le : {a b c d x y : Fraction} → a ≤ℚ x → x ≤ℚ b → c ≤ℚ y → y ≤ℚ d
     → x *ℚ y ≤ℚ greater (greater (a *ℚ c) (a *ℚ d)) (greater (b *ℚ c) (b *ℚ d))
 product_le {a} {b} {y = y} h1 h2 h3 h4 =

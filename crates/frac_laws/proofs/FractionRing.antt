@@ -1,5 +1,6 @@
 -- Fractions are a commutative ring, and what is known of the sign of a sum, a product and an opposite.
-use Rattle.std.specs.Prelude.{◌≡◌, ℕ, zero, suc, pos, negsuc, ℤ, ◌+ℤ◌, ◌*ℤ◌, neg_ℤ, true, false, refl, [], ◌∷◌}
+use Rattle.std.specs.Prelude.{◌≡◌, ℕ, zero, suc, pos, negsuc, ℤ, ◌+ℤ◌, ◌*ℤ◌, neg_ℤ, true, false, refl, []}
+use Rattle.std.specs.Prelude.{◌∷◌}
 use mathlib.Core.Bool.{Bool-set}
 use mathlib.Core.Quot.{mk, ind, sound}
 use Rattle.frac_base.specs.Pair.{Pair, bottom, sum_of, product_of, is_natural, one_pair}
@@ -67,29 +68,29 @@ mk-zero p h = sound (top_zero p.top (bottom p) (is_zero-zero p.top h))
 -- fractions, with pairs as numerals
 abbrev pub fraction_ring : RingOver
 fraction_ring = record {
-  R = Fraction;
-  o = whole (pos 0);
-  u = whole (pos 1);
+  Element = Fraction;
+  nil = whole (pos 0);
+  one = whole (pos 1);
   add = ◌+◌;
   mul = ◌*◌;
   neg = opposite;
   add_comm = add_comm;
   add_assoc = add_assoc;
-  add_o = add_zero;
+  add_nil = add_zero;
   add_neg = add_opposite;
   mul_comm = mul_comm;
   mul_assoc = mul_assoc;
-  mul_u = mul_one;
+  mul_one = mul_one;
   mul_add = mul_add;
-  K = Pair;
-  ku = one_pair;
-  kneg1 = record { top = negsuc 0; below = 0 };
-  kadd = sum_of;
-  kmul = product_of;
+  Numeral = Pair;
+  numeral_one = one_pair;
+  numeral_minus_one = record { top = negsuc 0; below = 0 };
+  numeral_add = sum_of;
+  numeral_mul = product_of;
   is_nil = λ p. is_zero p.top;
   value = λ p. mk p;
-  value_u = refl;
-  value_neg1 = whole-opposite_one;
+  value_one = refl;
+  value_minus_one = whole-opposite_one;
   value_add = mk-sum_of;
   value_mul = mk-product_of;
   value_nil = mk-zero;
@@ -115,20 +116,25 @@ both_natural (pos zero) h k = refl
 both_natural (pos (suc n)) h k = cc
 both_natural (negsuc n) h k = cc
 
-pub add_sign : (x y : Fraction) → is_not_negative x ≡ true → is_not_negative y ≡ true → is_not_negative (x + y) ≡ true
+pub add_sign : (x y : Fraction) → is_not_negative x ≡ true → is_not_negative y ≡ true
+    → is_not_negative (x + y) ≡ true
 unfolding ◌+◌ is_not_negative
 add_sign = ind (λ x. hlevel Bool-set) (λ p. ind (λ y. hlevel Bool-set) (λ q h k.
     sum_natural p.top q.top p.below q.below h k))
 
-pub mul_sign : (x y : Fraction) → is_not_negative x ≡ true → is_not_negative y ≡ true → is_not_negative (x * y) ≡ true
+pub mul_sign : (x y : Fraction) → is_not_negative x ≡ true → is_not_negative y ≡ true
+    → is_not_negative (x * y) ≡ true
 unfolding ◌*◌ is_not_negative
-mul_sign = ind (λ x. hlevel Bool-set) (λ p. ind (λ y. hlevel Bool-set) (λ q h k. product_natural p.top q.top h k))
+mul_sign = ind (λ x. hlevel Bool-set)
+    (λ p. ind (λ y. hlevel Bool-set) (λ q h k. product_natural p.top q.top h k))
 
 pub opposite_sign : (x : Fraction) → is_not_negative x ≡ false → is_not_negative (opposite x) ≡ true
 unfolding opposite is_not_negative
 opposite_sign = ind (λ x. hlevel Bool-set) (λ p h. opposite_natural p.top h)
 
 -- what is not below 0 and not above 0 is 0
-pub zero_sign : (x : Fraction) → is_not_negative x ≡ true → is_not_negative (opposite x) ≡ true → x ≡ whole (pos 0)
+pub zero_sign : (x : Fraction) → is_not_negative x ≡ true → is_not_negative (opposite x) ≡ true
+    → x ≡ whole (pos 0)
 unfolding opposite is_not_negative
-zero_sign = ind (λ x. hlevel Fraction-set) (λ p h k. sound (top_zero p.top (bottom p) (both_natural p.top h k)))
+zero_sign = ind (λ x. hlevel Fraction-set)
+    (λ p h k. sound (top_zero p.top (bottom p) (both_natural p.top h k)))

@@ -5,7 +5,8 @@ use Rattle.std.proofs.Common.{refl, ap, sym, ◌∙◌}
 use mathlib.Core.Path.{ap₂}
 use mathlib.Core.Quot.{mk}
 use Rattle.frac_base.specs.Pair.{Pair}
-use Rattle.frac_base.proofs.Ring.{Expr, con, var, ◌⊕◌, ◌⊗◌, ◌⊖◌, minus, norm, all_nil, eval, solve, pick}
+use Rattle.frac_base.proofs.Ring.{Expr, con, var, ◌⊕◌, ◌⊗◌, ◌⊖◌, minus, normal_form, all_nil, eval, solve}
+use Rattle.frac_base.proofs.Ring.{pick}
 use Rattle.frac_laws.specs.Fraction.{Fraction, whole, opposite, ◌+ℚ◌ as ◌+◌, ◌*ℚ◌ as ◌*◌, ◌-ℚ◌ as ◌-◌}
 use Rattle.frac_laws.proofs.FractionRing.{fraction_ring}
 
@@ -18,11 +19,16 @@ pub data Term : List Fraction → Fraction → Type 0 where
   v4 : {a x0 x1 x2 x3 : Fraction} {xs : List Fraction} → Term (x0 ∷ x1 ∷ x2 ∷ x3 ∷ a ∷ xs) a
   v5 : {a x0 x1 x2 x3 x4 : Fraction} {xs : List Fraction} → Term (x0 ∷ x1 ∷ x2 ∷ x3 ∷ x4 ∷ a ∷ xs) a
   v6 : {a x0 x1 x2 x3 x4 x5 : Fraction} {xs : List Fraction} → Term (x0 ∷ x1 ∷ x2 ∷ x3 ∷ x4 ∷ x5 ∷ a ∷ xs) a
-  v7 : {a x0 x1 x2 x3 x4 x5 x6 : Fraction} {xs : List Fraction} → Term (x0 ∷ x1 ∷ x2 ∷ x3 ∷ x4 ∷ x5 ∷ x6 ∷ a ∷ xs) a
-  v8 : {a x0 x1 x2 x3 x4 x5 x6 x7 : Fraction} {xs : List Fraction} → Term (x0 ∷ x1 ∷ x2 ∷ x3 ∷ x4 ∷ x5 ∷ x6 ∷ x7 ∷ a ∷ xs) a
-  v9 : {a x0 x1 x2 x3 x4 x5 x6 x7 x8 : Fraction} {xs : List Fraction} → Term (x0 ∷ x1 ∷ x2 ∷ x3 ∷ x4 ∷ x5 ∷ x6 ∷ x7 ∷ x8 ∷ a ∷ xs) a
-  v10 : {a x0 x1 x2 x3 x4 x5 x6 x7 x8 x9 : Fraction} {xs : List Fraction} → Term (x0 ∷ x1 ∷ x2 ∷ x3 ∷ x4 ∷ x5 ∷ x6 ∷ x7 ∷ x8 ∷ x9 ∷ a ∷ xs) a
-  v11 : {a x0 x1 x2 x3 x4 x5 x6 x7 x8 x9 x10 : Fraction} {xs : List Fraction} → Term (x0 ∷ x1 ∷ x2 ∷ x3 ∷ x4 ∷ x5 ∷ x6 ∷ x7 ∷ x8 ∷ x9 ∷ x10 ∷ a ∷ xs) a
+  v7 : {a x0 x1 x2 x3 x4 x5 x6 : Fraction} {xs : List Fraction}
+      → Term (x0 ∷ x1 ∷ x2 ∷ x3 ∷ x4 ∷ x5 ∷ x6 ∷ a ∷ xs) a
+  v8 : {a x0 x1 x2 x3 x4 x5 x6 x7 : Fraction} {xs : List Fraction}
+      → Term (x0 ∷ x1 ∷ x2 ∷ x3 ∷ x4 ∷ x5 ∷ x6 ∷ x7 ∷ a ∷ xs) a
+  v9 : {a x0 x1 x2 x3 x4 x5 x6 x7 x8 : Fraction} {xs : List Fraction}
+      → Term (x0 ∷ x1 ∷ x2 ∷ x3 ∷ x4 ∷ x5 ∷ x6 ∷ x7 ∷ x8 ∷ a ∷ xs) a
+  v10 : {a x0 x1 x2 x3 x4 x5 x6 x7 x8 x9 : Fraction} {xs : List Fraction}
+      → Term (x0 ∷ x1 ∷ x2 ∷ x3 ∷ x4 ∷ x5 ∷ x6 ∷ x7 ∷ x8 ∷ x9 ∷ a ∷ xs) a
+  v11 : {a x0 x1 x2 x3 x4 x5 x6 x7 x8 x9 x10 : Fraction} {xs : List Fraction}
+      → Term (x0 ∷ x1 ∷ x2 ∷ x3 ∷ x4 ∷ x5 ∷ x6 ∷ x7 ∷ x8 ∷ x9 ∷ x10 ∷ a ∷ xs) a
   add : {xs : List Fraction} {a b : Fraction} → Term xs a → Term xs b → Term xs (a + b)
   sub : {xs : List Fraction} {a b : Fraction} → Term xs a → Term xs b → Term xs (a - b)
   mul : {xs : List Fraction} {a b : Fraction} → Term xs a → Term xs b → Term xs (a * b)
@@ -56,7 +62,7 @@ expr (mul s t) = expr s ⊗ expr t
 expr (neg s) = minus (expr s)
 
 abbrev pub is_same : {xs : List Fraction} {a b : Fraction} → Sides xs a b → Bool
-is_same (sides s t) = all_nil fraction_ring (norm fraction_ring (expr s ⊖ expr t))
+is_same (sides s t) = all_nil fraction_ring (normal_form fraction_ring (expr s ⊖ expr t))
 
 pub eval-expr : {xs : List Fraction} {a : Fraction} (t : Term xs a)
     → eval fraction_ring (pick (whole (pos 0)) xs) (expr t) ≡ a

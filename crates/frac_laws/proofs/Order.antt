@@ -26,7 +26,8 @@ le_trans {x} {y} {z} h k = le_by_gap (x ∷ y ∷ z ∷ []) (add_gaps (gap h) (g
 
 pub le_antisym : {x y : Fraction} → x ≤ y → y ≤ x → x ≡ y
 le_antisym {x} {y} h k = ring (x ∷ y ∷ []) (hlevel terms) refl
-    ∙ ap (λ z. y - z) (zero_sign (y - x) (gap h).sign (of_equal (ring (x ∷ y ∷ []) (hlevel terms) refl) (gap k)).sign)
+    ∙ ap (λ z. y - z) (zero_sign (y - x) (gap h).sign
+    (of_equal (ring (x ∷ y ∷ []) (hlevel terms) refl) (gap k)).sign)
     ∙ ring (y ∷ []) (hlevel terms) refl
 
 -- each fraction is not negative, or its opposite is not
@@ -44,7 +45,8 @@ le_total x y = elim (sign_cases (y - x)) [
 ]
 
 pub add_mono : {a b c d : Fraction} → a ≤ b → c ≤ d → a + c ≤ b + d
-add_mono {a} {b} {c} {d} h k = le_by_gap (a ∷ b ∷ c ∷ d ∷ []) (add_gaps (gap h) (gap k)) (hlevel sides_of) refl
+add_mono {a} {b} {c} {d} h k =
+    le_by_gap (a ∷ b ∷ c ∷ d ∷ []) (add_gaps (gap h) (gap k)) (hlevel sides_of) refl
 
 pub mul_mono : {a b c d : Fraction} → a ≤ b → c ≤ d → whole (pos 0) ≤ a → whole (pos 0) ≤ d → a * c ≤ b * d
 mul_mono {a} {b} {c} {d} h k p q = le_by_gap (a ∷ b ∷ c ∷ d ∷ [])

@@ -1,8 +1,11 @@
 -- The laws of quotients in the form of their statements.
 use Rattle.std.proofs.Common.{sym}
-use Rattle.frac_laws.specs.QuotientLaws.{QuotientsCompareByCross, QuotientsAreBelowByCross, QuotientsAreEqualByCross}
-use Rattle.frac_laws.specs.QuotientLaws.{QuotientsAddOverOneDivisor, QuotientsAdd, QuotientsMultiply, QuotientsHaveOpposites}
-use Rattle.frac_laws.specs.QuotientLaws.{QuotientsCancel, QuotientsTimesDivisor, WholeNumbersCompare, WholeNumbersAdd, WholeNumbersMultiply}
+use Rattle.frac_laws.specs.QuotientLaws.{QuotientsCompareByCross, QuotientsAreBelowByCross}
+use Rattle.frac_laws.specs.QuotientLaws.{QuotientsAreEqualByCross}
+use Rattle.frac_laws.specs.QuotientLaws.{QuotientsAddOverOneDivisor, QuotientsAdd, QuotientsMultiply}
+use Rattle.frac_laws.specs.QuotientLaws.{QuotientsHaveOpposites}
+use Rattle.frac_laws.specs.QuotientLaws.{QuotientsCancel, QuotientsTimesDivisor, WholeNumbersCompare}
+use Rattle.frac_laws.specs.QuotientLaws.{WholeNumbersAdd, WholeNumbersMultiply}
 use Rattle.frac_laws.proofs.Quotients as Q
 
 pub compare_by_cross : QuotientsCompareByCross

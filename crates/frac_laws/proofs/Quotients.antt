@@ -1,4 +1,5 @@
--- Fractions that are written as a quotient of whole numbers: equality, order, sum and product by cross multiplication.
+-- Fractions that are written as a quotient of whole numbers: equality, order, sum and product by the cross
+-- products.
 use Rattle.std.specs.Prelude.{◌≡◌, ℕ, suc, zero, pred, pos, ℤ, ◌+ℤ◌, ◌-ℤ◌, ◌*ℤ◌, neg_ℤ, ◌≤ℤ◌, ◌<ℤ◌, ◌≤◌, ◌*◌}
 use Rattle.std.specs.Prelude.{true, [], ◌∷◌}
 use Rattle.std.proofs.Common.{refl, ap, sym, ◌∙◌, arith}
@@ -49,28 +50,33 @@ whole_antisym n m h k = omega (arith, ints)
 
 -- equal fractions have equal cross products
 pub same_of_equal : (p q : Pair) → ◌≡◌ {A = Fraction} (mk p) (mk q) → Same p q
-same_of_equal p q e = whole_antisym _ _ (cross_of_le p q (le_of_equal e)) (cross_of_le q p (le_of_equal (sym e)))
+same_of_equal p q e = whole_antisym _ _ (cross_of_le p q (le_of_equal e))
+    (cross_of_le q p (le_of_equal (sym e)))
 
 -- over n d, as a pair
 abbrev pub pair : ℤ → ℕ → Pair
 pair n d = record { top = n; below = pred d }
 
-pub cross_of_over_le : (n m : ℤ) (d e : ℕ) → 1 ≤ d → 1 ≤ e → over n d ≤ℚ over m e → (n *ℤ pos e) ≤ℤ (m *ℤ pos d)
+pub cross_of_over_le : (n m : ℤ) (d e : ℕ) → 1 ≤ d → 1 ≤ e → over n d ≤ℚ over m e
+    → (n *ℤ pos e) ≤ℤ (m *ℤ pos d)
 cross_of_over_le n m zero e a b h = absurd (omega arith)
 cross_of_over_le n m (suc d) zero a b h = absurd (omega arith)
 cross_of_over_le n m (suc d) (suc e) a b h = cross_of_le (pair n (suc d)) (pair m (suc e)) h
 
-pub over_le_of_cross : (n m : ℤ) (d e : ℕ) → 1 ≤ d → 1 ≤ e → (n *ℤ pos e) ≤ℤ (m *ℤ pos d) → over n d ≤ℚ over m e
+pub over_le_of_cross : (n m : ℤ) (d e : ℕ) → 1 ≤ d → 1 ≤ e → (n *ℤ pos e) ≤ℤ (m *ℤ pos d)
+    → over n d ≤ℚ over m e
 over_le_of_cross n m zero e a b h = absurd (omega arith)
 over_le_of_cross n m (suc d) zero a b h = absurd (omega arith)
 over_le_of_cross n m (suc d) (suc e) a b h = le_of_cross (pair n (suc d)) (pair m (suc e)) h
 
-pub cross_of_over_lt : (n m : ℤ) (d e : ℕ) → 1 ≤ d → 1 ≤ e → over n d <ℚ over m e → (n *ℤ pos e) <ℤ (m *ℤ pos d)
+pub cross_of_over_lt : (n m : ℤ) (d e : ℕ) → 1 ≤ d → 1 ≤ e → over n d <ℚ over m e
+    → (n *ℤ pos e) <ℤ (m *ℤ pos d)
 cross_of_over_lt n m zero e a b h = absurd (omega arith)
 cross_of_over_lt n m (suc d) zero a b h = absurd (omega arith)
 cross_of_over_lt n m (suc d) (suc e) a b h = cross_of_lt (pair n (suc d)) (pair m (suc e)) h
 
-pub over_lt_of_cross : (n m : ℤ) (d e : ℕ) → 1 ≤ d → 1 ≤ e → (n *ℤ pos e) <ℤ (m *ℤ pos d) → over n d <ℚ over m e
+pub over_lt_of_cross : (n m : ℤ) (d e : ℕ) → 1 ≤ d → 1 ≤ e → (n *ℤ pos e) <ℤ (m *ℤ pos d)
+    → over n d <ℚ over m e
 over_lt_of_cross n m zero e a b h = absurd (omega arith)
 over_lt_of_cross n m (suc d) zero a b h = absurd (omega arith)
 over_lt_of_cross n m (suc d) (suc e) a b h = lt_of_cross (pair n (suc d)) (pair m (suc e)) h
@@ -116,12 +122,14 @@ positive_product (suc d) (suc c) a b = omega arith
 
 -- top and bottom times one number
 pub over_scale : (n : ℤ) (d c : ℕ) → 1 ≤ d → 1 ≤ c → over (n *ℤ pos c) (d * c) ≡ over n d
-over_scale n d c a b = over_equal_of_cross (n *ℤ pos c) n (d * c) d (positive_product d c a b) a (scaled n (pos d) (pos c))
+over_scale n d c a b = over_equal_of_cross (n *ℤ pos c) n (d * c) d (positive_product d c a b) a
+    (scaled n (pos d) (pos c))
   where
     scaled : (n d c : ℤ) → (n *ℤ c) *ℤ d ≡ n *ℤ (d *ℤ c)
     scaled n d c = W.ring (n ∷ d ∷ c ∷ []) (hlevel W.terms) refl
 
-pub over_add_cross : (n m : ℤ) (d e : ℕ) → 1 ≤ d → 1 ≤ e → over n d +ℚ over m e ≡ over (n *ℤ pos e +ℤ m *ℤ pos d) (d * e)
+pub over_add_cross : (n m : ℤ) (d e : ℕ) → 1 ≤ d → 1 ≤ e
+    → over n d +ℚ over m e ≡ over (n *ℤ pos e +ℤ m *ℤ pos d) (d * e)
 unfolding ◌+ℚ◌
 over_add_cross n m zero e a b = absurd (omega arith)
 over_add_cross n m (suc d) zero a b = absurd (omega arith)
@@ -141,7 +149,8 @@ pub whole_mul : (n m : ℤ) → whole (n *ℤ m) ≡ whole n *ℚ whole m
 whole_mul n m = mk-product_of (pair n 1) (pair m 1)
 
 pub whole_suc : (n : ℕ) → whole (pos (suc n)) ≡ whole (pos 1) +ℚ whole (pos n)
-whole_suc n = (let e : pos (suc n) ≡ pos 1 +ℤ pos n = omega (arith, ints) in ap whole e) ∙ whole_add (pos 1) (pos n)
+whole_suc n = (let e : pos (suc n) ≡ pos 1 +ℤ pos n = omega (arith, ints) in ap whole e)
+    ∙ whole_add (pos 1) (pos n)
 
 times_one : (n : ℤ) → n *ℤ pos 1 ≡ n
 times_one n = W.ring (n ∷ []) (hlevel W.terms) refl
@@ -161,7 +170,8 @@ lt_of_whole {n} {m} h = rw (times_one n, times_one m) at (cross_of_lt (pair n 1)
 -- d times n / d
 pub times_over : (n : ℤ) (d : ℕ) → 1 ≤ d → whole (pos d) *ℚ over n d ≡ whole n
 times_over n d a = over_mul (pos d) n 1 d (omega arith) a
-    ∙ over_equal_of_cross (pos d *ℤ n) n (1 * d) 1 (omega arith) (omega arith) (product n (pos d) _ (let e : 1 * d ≡ d = omega arith in ap pos e))
+    ∙ over_equal_of_cross (pos d *ℤ n) n (1 * d) 1 (omega arith) (omega arith)
+    (product n (pos d) _ (let e : 1 * d ≡ d = omega arith in ap pos e))
   where
     product : (n d e : ℤ) → e ≡ d → (d *ℤ n) *ℤ pos 1 ≡ n *ℤ e
     product n d e h = rw h (W.ring (n ∷ d ∷ []) (hlevel W.terms) refl)

@@ -18,11 +18,17 @@ unfolding size
 size_of_opposite x h = cases (is_not_negative x) refl
   where
     cases : (b : Bool) → is_not_negative x ≡ b → cond b x (opposite x) ≡ opposite x
-    cases true e = let z = zero_sign x e (above_zero h).sign in z ∙ ring [] (hlevel terms) refl ∙ sym (ap opposite z)
+    cases true e = let z = zero_sign x e (above_zero h).sign in z ∙ ring [] (hlevel terms) refl
+        ∙ sym (ap opposite z)
     cases false e = refl
 
-pub size_cases : (x : Fraction) → ((whole (pos 0) ≤ x) × size x ≡ x) ⊎ ((whole (pos 0) ≤ opposite x) × size x ≡ opposite x)
-size_cases x = elim (sign_cases x) [ inl h ↦ inl (h, size_of_natural h) | inr h ↦ inr (h, size_of_opposite x h) ]
+pub size_cases : (x : Fraction)
+    → ((whole (pos 0) ≤ x) × size x ≡ x) ⊎ ((whole (pos 0) ≤ opposite x) × size x ≡ opposite x)
+size_cases x = elim (sign_cases x) [
+  | inl h ↦ inl (h, size_of_natural h)
+  | inr h ↦ inr
+      (h, size_of_opposite x h)
+]
 
 -- a size is not negative
 pub size_natural : (x : Fraction) → whole (pos 0) ≤ size x

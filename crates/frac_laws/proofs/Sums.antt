@@ -28,16 +28,19 @@ pub sum_to_scale : (n : ℕ) (c : Fraction) (f : ℕ → Fraction) → sum_to n 
 sum_to_scale zero c f = ring (c ∷ []) (hlevel terms) refl
 sum_to_scale (suc n) c f = rw (sum_to_scale n c f) (ring (sum_to n f ∷ c ∷ f n ∷ []) (hlevel terms) refl)
 
-pub sum_to_scale_right : (n : ℕ) (c : Fraction) (f : ℕ → Fraction) → sum_to n (λ k. f k *ℚ c) ≡ sum_to n f *ℚ c
+pub sum_to_scale_right : (n : ℕ) (c : Fraction) (f : ℕ → Fraction)
+    → sum_to n (λ k. f k *ℚ c) ≡ sum_to n f *ℚ c
 sum_to_scale_right zero c f = ring (c ∷ []) (hlevel terms) refl
-sum_to_scale_right (suc n) c f = rw (sum_to_scale_right n c f) (ring (sum_to n f ∷ c ∷ f n ∷ []) (hlevel terms) refl)
+sum_to_scale_right (suc n) c f =
+    rw (sum_to_scale_right n c f) (ring (sum_to n f ∷ c ∷ f n ∷ []) (hlevel terms) refl)
 
 pub sum_to_zero : (n : ℕ) → sum_to n (λ k. whole (pos 0)) ≡ whole (pos 0)
 sum_to_zero zero = refl
 sum_to_zero (suc n) = rw (sum_to_zero n) (ring [] (hlevel terms) refl)
 
 -- a sum of zeros
-pub sum_to_zeros : (n : ℕ) {f : ℕ → Fraction} → ((k : ℕ) → k < n → f k ≡ whole (pos 0)) → sum_to n f ≡ whole (pos 0)
+pub sum_to_zeros : (n : ℕ) {f : ℕ → Fraction} → ((k : ℕ) → k < n → f k ≡ whole (pos 0))
+    → sum_to n f ≡ whole (pos 0)
 sum_to_zeros n h = sum_to_ext n h ∙ sum_to_zero n
 
 -- the order of two sums may be changed
@@ -65,23 +68,29 @@ pub sum_to_mono : (n : ℕ) {f g : ℕ → Fraction} → ((k : ℕ) → k < n �
 sum_to_mono zero h = le_refl _
 sum_to_mono (suc n) h = add_mono (sum_to_mono n (λ k b. h k (omega arith))) (h n (omega arith))
 
-pub sum_to_natural : (n : ℕ) {f : ℕ → Fraction} → ((k : ℕ) → k < n → whole (pos 0) ≤ℚ f k) → whole (pos 0) ≤ℚ sum_to n f
+pub sum_to_natural : (n : ℕ) {f : ℕ → Fraction} → ((k : ℕ) → k < n → whole (pos 0) ≤ℚ f k)
+    → whole (pos 0) ≤ℚ sum_to n f
 sum_to_natural n h = le_trans (le_of_equal (sym (sum_to_zero n))) (sum_to_mono n h)
 
 last_or : (n m : ℕ) → n ≤ suc m → (n ≤ m) ⊎ (n ≡ suc m)
 last_or n m b = grind arith
 
 -- more terms that are not negative
-pub sum_to_longer : (n m : ℕ) {f : ℕ → Fraction} → ((k : ℕ) → k < m → whole (pos 0) ≤ℚ f k) → n ≤ m → sum_to n f ≤ℚ sum_to m f
+pub sum_to_longer : (n m : ℕ) {f : ℕ → Fraction} → ((k : ℕ) → k < m → whole (pos 0) ≤ℚ f k) → n ≤ m
+    → sum_to n f ≤ℚ sum_to m f
 sum_to_longer n zero h b = let e : n ≡ 0 = omega arith in rw e (le_refl _)
 sum_to_longer n (suc m) {f} h b = elim (last_or n m b) [
-  | inl c ↦ linear (sum_to n f ∷ sum_to m f ∷ f m ∷ []) (sum_to_longer n m {f = f} (λ k d. h k (omega arith)) c ⊞ h m (omega arith)) (hlevel claims) refl
+  | inl c ↦ linear (sum_to n f ∷ sum_to m f ∷ f m ∷ [])
+      (sum_to_longer n m {f = f} (λ k d. h k (omega arith)) c ⊞ h m (omega arith)) (hlevel claims) refl
   | inr e ↦ rw e (le_refl _)
 ]
 
 -- one term of a sum of terms that are not negative
-pub term_le_sum_to : (n i : ℕ) {f : ℕ → Fraction} → ((k : ℕ) → k < n → whole (pos 0) ≤ℚ f k) → i < n → f i ≤ℚ sum_to n f
-term_le_sum_to n i {f} h b = le_trans (linear (f i ∷ sum_to i f ∷ []) (sum_to_natural i {f = f} (λ k c. h k (omega arith))) (hlevel claims) refl)
+pub term_le_sum_to : (n i : ℕ) {f : ℕ → Fraction} → ((k : ℕ) → k < n → whole (pos 0) ≤ℚ f k) → i < n
+    → f i ≤ℚ sum_to n f
+term_le_sum_to n i {f} h b = le_trans
+    (linear (f i ∷ sum_to i f ∷ []) (sum_to_natural i {f = f} (λ k c. h k (omega arith)))
+    (hlevel claims) refl)
     (sum_to_longer (suc i) n {f = f} h (omega arith))
 
 pub size-sum_to : (n : ℕ) (f : ℕ → Fraction) → size (sum_to n f) ≤ℚ sum_to n (λ k. size (f k))

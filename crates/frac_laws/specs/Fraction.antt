@@ -3,7 +3,8 @@ use Rattle.std.specs.Prelude.{◌≡◌, ℕ, pred, ℤ, pos, Bool, true, false,
 use mathlib.Core.Quot.{Quot, mk, Quot-set, lift, ind, sound}
 use mathlib.Core.Bool.{Bool-set}
 use Rattle.frac_base.specs.Pair.{Pair, Same, sum_of, product_of, opposite_of, is_natural}
-use Rattle.frac_base.proofs.Respect.{sum-left, sum-right, product-left, product-right, opposite-same, sign-same}
+use Rattle.frac_base.proofs.Respect.{sum-left, sum-right, product-left, product-right, opposite-same}
+use Rattle.frac_base.proofs.Respect.{sign-same}
 
 -- a fraction: a pair of whole numbers, where two pairs are one fraction if their cross products are equal
 abbrev pub Fraction : Type 0
@@ -26,7 +27,8 @@ whole n = mk (record { top = n; below = 0 })
 -- a function of two pairs that respects `Same` on both sides, as a function of two fractions
 abbrev pub of_both : (f : Pair → Pair → Pair) → ((p p' q : Pair) → Same p p' → Same (f p q) (f p' q))
     → ((p q q' : Pair) → Same q q' → Same (f p q) (f p q')) → Fraction → Fraction → Fraction
-of_both f left right x y = lift Fraction-set (λ p. lift Fraction-set (λ q. mk (f p q)) (λ q q' r. sound (right p q q' r)) y)
+of_both f left right x y = lift Fraction-set
+    (λ p. lift Fraction-set (λ q. mk (f p q)) (λ q q' r. sound (right p q q' r)) y)
     (λ p p' r. ind {β = λ y. lift Fraction-set (λ q. mk (f p q)) (λ q q' r. sound (right p q q' r)) y
     ≡ lift Fraction-set (λ q. mk (f p' q)) (λ q q' r. sound (right p' q q' r)) y}
     (λ y. Fraction-set _ _) (λ q. sound (left p p' q r)) y) x

@@ -1,18 +1,22 @@
--- Order, equality, sum and product of fractions that are written as quotients of whole numbers, for positive divisors.
+-- Order, equality, sum and product of fractions that are written as quotients of whole numbers, for positive
+-- divisors.
 use Rattle.std.specs.Prelude.{◌≡◌, ◌↔◌, ℕ, pos, ℤ, ◌+ℤ◌, ◌*ℤ◌, neg_ℤ, ◌≤ℤ◌, ◌<ℤ◌, ◌≤◌, ◌*◌}
 use Rattle.frac_laws.specs.Fraction.{over, whole, opposite, ◌+ℚ◌, ◌*ℚ◌, ◌≤ℚ◌, ◌<ℚ◌}
 
 -- one quotient is at most another exactly where the cross products compare so
 abbrev pub QuotientsCompareByCross : Type 0
-QuotientsCompareByCross = (n m : ℤ) (d e : ℕ) → 1 ≤ d → 1 ≤ e → (over n d ≤ℚ over m e) ↔ ((n *ℤ pos e) ≤ℤ (m *ℤ pos d))
+QuotientsCompareByCross = (n m : ℤ) (d e : ℕ) → 1 ≤ d → 1 ≤ e
+    → (over n d ≤ℚ over m e) ↔ ((n *ℤ pos e) ≤ℤ (m *ℤ pos d))
 
 -- one quotient is below another exactly where the cross products compare so
 abbrev pub QuotientsAreBelowByCross : Type 0
-QuotientsAreBelowByCross = (n m : ℤ) (d e : ℕ) → 1 ≤ d → 1 ≤ e → (over n d <ℚ over m e) ↔ ((n *ℤ pos e) <ℤ (m *ℤ pos d))
+QuotientsAreBelowByCross = (n m : ℤ) (d e : ℕ) → 1 ≤ d → 1 ≤ e
+    → (over n d <ℚ over m e) ↔ ((n *ℤ pos e) <ℤ (m *ℤ pos d))
 
 -- two quotients are equal exactly where the cross products are
 abbrev pub QuotientsAreEqualByCross : Type 0
-QuotientsAreEqualByCross = (n m : ℤ) (d e : ℕ) → 1 ≤ d → 1 ≤ e → (over n d ≡ over m e) ↔ (n *ℤ pos e ≡ m *ℤ pos d)
+QuotientsAreEqualByCross = (n m : ℤ) (d e : ℕ) → 1 ≤ d → 1 ≤ e
+    → (over n d ≡ over m e) ↔ (n *ℤ pos e ≡ m *ℤ pos d)
 
 -- n/d + m/d = (n + m)/d
 abbrev pub QuotientsAddOverOneDivisor : Type 0
@@ -20,7 +24,8 @@ QuotientsAddOverOneDivisor = (n m : ℤ) (d : ℕ) → 1 ≤ d → over n d +ℚ
 
 -- n/d + m/e = (n e + m d)/(d e)
 abbrev pub QuotientsAdd : Type 0
-QuotientsAdd = (n m : ℤ) (d e : ℕ) → 1 ≤ d → 1 ≤ e → over n d +ℚ over m e ≡ over (n *ℤ pos e +ℤ m *ℤ pos d) (d * e)
+QuotientsAdd = (n m : ℤ) (d e : ℕ) → 1 ≤ d → 1 ≤ e
+    → over n d +ℚ over m e ≡ over (n *ℤ pos e +ℤ m *ℤ pos d) (d * e)
 
 -- n/d * m/e = (n m)/(d e)
 abbrev pub QuotientsMultiply : Type 0
