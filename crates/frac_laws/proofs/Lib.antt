@@ -11,3 +11,4 @@ pub mod Powers
 pub mod Signs
 pub mod Floors
 pub mod QuotientFacts
+pub mod RatioOrder
