@@ -11,3 +11,7 @@ pub mod Powers
 pub mod Signs
 pub mod Floors
 pub mod QuotientFacts
+pub mod Convolutions
+pub mod Vectors
+pub mod Norms
+pub mod SmallNumbers
