@@ -12,3 +12,7 @@ pub mod Signs
 pub mod Floors
 pub mod QuotientFacts
 pub mod RatioOrder
+pub mod Convolutions
+pub mod Vectors
+pub mod Norms
+pub mod SmallNumbers

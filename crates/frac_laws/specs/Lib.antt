@@ -1,6 +1,10 @@
-pub mod Fraction
+pub mod Convolution
 pub mod FloorLaws
+pub mod Fraction
 pub mod Ledger
+pub mod Lists
+pub mod NormLaws
+pub mod Norms
 pub mod QuotientLaws
 pub mod RatioValue
 pub mod Rounding
