@@ -1,8 +1,9 @@
 -- The shift of v * 15625 by 58 - g is the floor of v * 2^g * 10^6 / 2^64.
-use Rattle.std.proofs.Common.{◌≡◌, ℕ, ◌+◌, ◌-◌, ◌*◌, ◌/◌, ◌^◌, ◌≤◌, ℤ, pos, negsuc, ◌*ℤ◌, ap, sym, refl, ◌∙◌, arith}
+use Rattle.std.proofs.Common.{◌≡◌, ℕ, ◌+◌, ◌-◌, ◌*◌, ◌/◌, ◌^◌, ◌<◌, ◌≤◌, ℤ, pos, negsuc, ◌*ℤ◌, ap, sym, refl, ◌∙◌, arith}
 use Rattle.std.specs.Prelude.{unsigned_abs}
 use Rattle.std.specs.Int.{int_shr}
-use Rattle.std.proofs.lemmas.Nat.{pow-add, pow_pos, shr-shr, shr_le}
+use Rattle.std.proofs.lemmas.Nat.{pow-add, pow_pos, shr-shr, shr_le, shr_below}
+use Rattle.std.proofs.Math.Nat.{div-div-eq-div-mul}
 use Rattle.frac_laws.specs.Rounding.{floor_of}
 use Rattle.frac_laws.proofs.RoundingLaws.{product-product, floor-common_factor}
 
@@ -35,3 +36,15 @@ quarter n k two =
 pub shifted_size : (z : ℤ) (k m : ℕ) → 2 ≤ k → unsigned_abs z ≤ 4 * m → unsigned_abs (int_shr z k) ≤ m
 shifted_size (pos n) k m two small = omega (arith, quarter n k two)
 shifted_size (negsuc n) k m two small = omega (arith, quarter n k two)
+
+-- ---- the dot product's quotient
+
+-- a sum below 2^126 in size, shifted by 64 places
+pub sum_shifted_size : (z : ℤ) → unsigned_abs z < 2 ^ 126 → unsigned_abs (int_shr z 64) ≤ 2 ^ 62
+sum_shifted_size (pos n) small = omega (arith, shr_below n 62 64 (omega arith))
+sum_shifted_size (negsuc n) small = omega (arith, shr_below n 62 64 (omega arith))
+
+-- the floor by 2^64 and then by d is the floor by their product
+pub floor_in_two : (z : ℤ) (d : ℕ) → floor_of (int_shr z 64) (pos d) ≡ floor_of z (pos (2 ^ 64 * d))
+floor_in_two (pos n) d = ap pos (div-div-eq-div-mul n (2 ^ 64) d)
+floor_in_two (negsuc n) d = ap negsuc (div-div-eq-div-mul n (2 ^ 64) d)
