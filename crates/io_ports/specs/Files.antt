@@ -1,5 +1,6 @@
 -- What a fetch says of the files that a shelf tells, and of its list of failures.
-use Rattle.std.specs.Prelude.{◌≡◌, ℕ, ◌<◌, ◌⊎◌, List, [], ◌∷◌, length, ⊤, Option, Some, None, Result, Ok, Err, IsErrOf, IsSomeAnd, bytes_eq, Vec, if◌then◌else◌, map}
+use Rattle.std.specs.Prelude.{◌≡◌, ℕ, ◌<◌, ◌⊎◌, List, [], ◌∷◌, length, map, bytes_eq, Vec, ⊤, if◌then◌else◌}
+use Rattle.std.specs.Prelude.{Option, Some, None, IsSomeAnd, Result, Ok, Err, IsErrOf}
 use Rattle.std.specs.Io.KnownBytes.{Consumes}
 use Rattle.std.specs.declared.alloc.Global.{Global}
 use Rattle.io_ports.specs.declared.shelf.FetchError.{FetchError}
@@ -21,7 +22,8 @@ IsLonger None name most = ⊥
 IsLonger (Some files) name most = IsSomeAnd (file_of name files) (λ bytes. most < length bytes)
 
 -- the answer fits the told files
-abbrev pub AnswersFrom : Option (List (List ℕ × List ℕ)) → List ℕ → ℕ → Result (Vec ℕ Global) FetchError → Type 0
+abbrev pub AnswersFrom : Option (List (List ℕ × List ℕ)) → List ℕ → ℕ → Result (Vec ℕ Global) FetchError
+    → Type 0
 AnswersFrom None name most result = ⊤
 AnswersFrom (Some files) name most (Ok bytes) = file_of name files ≡ Some bytes.items
 AnswersFrom (Some files) name most (Err Failed) = ⊤

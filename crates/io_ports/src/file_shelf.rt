@@ -1,5 +1,6 @@
 // A shelf over real files. It tells none of them.
-ghost use Rattle.std.specs.Prelude.{◌≡◌, ℕ, ◌+◌, ◌-◌, ◌^◌, ◌<◌, ◌≤◌, [], None, IfOk, IsErrOf, vec_len};
+ghost use Rattle.std.specs.Prelude.{◌≡◌, ℕ, ◌+◌, ◌-◌, ◌^◌, ◌<◌, ◌≤◌};
+ghost use Rattle.std.specs.Prelude.{[], None, IfOk, IsErrOf, vec_len};
 ghost use Rattle.std.specs.Io.KnownBytes.{Consumes, IsAtEnd};
 ghost use Rattle.io_ports.specs.Files.{names_of, ConsumesMany};
 
@@ -34,7 +35,8 @@ const CHUNK: u64 = 4096;
 fn read_whole<F: Read>(file: &mut F, alloc: Global, most: u64) -> Result<Vec<u8>, FetchError>
     requires { most < 2 ^ 32 }
     ensures bound { IfOk result (λ bytes. vec_len bytes ≤ most) }
-    ensures whole { IfOk result (λ bytes. Consumes (F.remaining file.old) (F.remaining file.new) bytes.items) }
+    ensures whole { IfOk result (λ bytes.
+        Consumes (F.remaining file.old) (F.remaining file.new) bytes.items) }
     ensures end { IfOk result (λ _. IsAtEnd (F.remaining file.new)) }
     ensures seen { (seen : ℕ) → IsErrOf result (FetchError.TooLong seen) → seen ≡ most + 1 }
     ensures taken { (seen : ℕ) → IsErrOf result (FetchError.TooLong seen) →

@@ -1,5 +1,6 @@
 // A shelf over pairs in memory, whose calls of listed numbers fail.
-ghost use Rattle.std.specs.Prelude.{◌≡◌, ℕ, ◌+◌, ◌^◌, ◌<◌, ◌≤◌, Some, [], ◌++◌, IfOk, IsErrOf, vec_len, option_copied};
+ghost use Rattle.std.specs.Prelude.{◌≡◌, ℕ, ◌+◌, ◌^◌, ◌<◌, ◌≤◌, ◌++◌};
+ghost use Rattle.std.specs.Prelude.{Some, [], IfOk, IsErrOf, vec_len, option_copied};
 ghost use Rattle.io_ports.specs.Files.{file_of, files_of, names_of, failure_of, AnswersFrom, IsErrOrMemory};
 
 use crate::calls::Calls;

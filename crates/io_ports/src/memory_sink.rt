@@ -1,5 +1,6 @@
 // A sink into memory that is taken when it is made, whose calls of listed numbers fail.
-ghost use Rattle.std.specs.Prelude.{◌≡◌, ◌+◌, ◌++◌, ◌-◌, ◌^◌, ◌<◌, ◌≤◌, ◌↔◌, Some, [], length, min, IfOk, OnOk, OnErr, IsErr, vec_len, vec_capacity};
+ghost use Rattle.std.specs.Prelude.{◌≡◌, ◌+◌, ◌++◌, ◌-◌, ◌^◌, ◌<◌, ◌≤◌, ◌↔◌};
+ghost use Rattle.std.specs.Prelude.{Some, [], length, IfOk, OnOk, OnErr, IsErr, vec_len, vec_capacity};
 
 use crate::calls::Calls;
 use crate::{Sink, SinkFault};
@@ -47,7 +48,8 @@ impl MemorySink {
 
 impl Sink for MemorySink {
     ghost use Rattle.io_ports.specs.Counts.{next_count};
-    ghost use Rattle.io_ports.specs.MemorySink.{calls_of, failing_of, room_of, bytes_in, faults_of, MeetsFault};
+    ghost use Rattle.io_ports.specs.MemorySink.{bytes_in, room_of, calls_of, failing_of, faults_of};
+    ghost use Rattle.io_ports.specs.MemorySink.{MeetsFault};
 
     ghost written = { λ sink. Some sink.bytes.items };
 

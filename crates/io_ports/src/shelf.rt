@@ -1,5 +1,6 @@
 // A shelf gives whole files by their names, and keeps the names of the fetches that failed.
-ghost use Rattle.std.specs.Prelude.{◌≡◌, ◌≢◌, ℕ, ◌+◌, ◌^◌, ◌<◌, ◌≤◌, List, ◌++◌, Option, IfOk, IsErrOf, vec_len};
+ghost use Rattle.std.specs.Prelude.{◌≡◌, ◌≢◌, ℕ, ◌+◌, ◌^◌, ◌<◌, ◌≤◌, ◌++◌};
+ghost use Rattle.std.specs.Prelude.{List, Option, IfOk, IsErrOf, vec_len};
 ghost use Rattle.io_ports.specs.declared.shelf.FetchError.TheVariants.{Memory};
 ghost use Rattle.io_ports.specs.Files.{failure_of, AnswersFrom, IsMissing, IsLonger, IsErrOrMemory};
 

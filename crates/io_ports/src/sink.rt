@@ -1,5 +1,5 @@
 // A sink takes pieces of bytes, and counts its faults.
-ghost use Rattle.std.specs.Prelude.{◌≡◌, ℕ, ◌-◌, ◌^◌, ◌<◌, ◌≤◌, List, length, Option, MatchResult, OnOk, OnErr};
+ghost use Rattle.std.specs.Prelude.{◌≡◌, ℕ, ◌-◌, ◌^◌, ◌<◌, ◌≤◌, List, length, Option, OnOk, OnErr};
 ghost use Rattle.std.specs.Io.KnownBytes.{Appends};
 ghost use Rattle.io_ports.specs.Counts.{Rose};
 ghost use Rattle.io_ports.specs.Growth.{AppendsPrefix};
@@ -20,7 +20,8 @@ pub trait Sink {
     fn put(&mut self, bytes: &[u8]) -> Result<(), SinkFault>
         requires { 0 < length bytes.now }
         ensures written { OnOk result (Appends (written self.old) (written self.new) bytes.now) }
-        ensures written_at_fault { OnErr result (AppendsPrefix (written self.old) (written self.new) bytes.now) }
+        ensures written_at_fault { OnErr result
+            (AppendsPrefix (written self.old) (written self.new) bytes.now) }
 
         ensures no_fault { OnOk result (faults self.new ≡ faults self.old) }
         ensures fault { OnErr result (Rose (faults self.old) (faults self.new)) }

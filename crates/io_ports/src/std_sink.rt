@@ -1,5 +1,6 @@
 // A sink over a writer of std. It tells nothing that was written.
-ghost use Rattle.std.specs.Prelude.{◌≡◌, None, ◌^◌, ◌-◌, ◌<◌, ◌≤◌, length, take, IfOk, OnOk, OnErr};
+ghost use Rattle.std.specs.Prelude.{◌≡◌, ◌-◌, ◌^◌, ◌<◌, ◌≤◌};
+ghost use Rattle.std.specs.Prelude.{None, length, take, IfOk, OnOk, OnErr};
 ghost use Rattle.std.specs.Io.KnownBytes.{Appends, Keeps};
 ghost use Rattle.io_ports.specs.Growth.{AppendsPrefix};
 
@@ -27,7 +28,8 @@ impl<W: Write + Drop> StdSink<W> {
 fn write_some<W: Write>(out: &mut W, bytes: &[u8]) -> Result<usize, SinkFault>
     requires { 0 < length bytes.now }
     ensures taken { IfOk result (λ count. (0 < count) × (count ≤ length bytes.now)) }
-    ensures ok { IfOk result (λ count. Appends (W.contents out.old) (W.contents out.new) (take count bytes.now)) }
+    ensures ok { IfOk result (λ count.
+        Appends (W.contents out.old) (W.contents out.new) (take count bytes.now)) }
     ensures err { OnErr result (Keeps (W.contents out.old) (W.contents out.new)) }
 {
     match out.write(bytes) {

@@ -5,9 +5,9 @@ use Rattle.io_ports.proofs.std_sink.write_whole.Goals as goal
 
 pub loop-at-preserved : goal.loop-at-preserved
 loop-at-preserved g c =
+    let before = c.loop-at.invariant.written in
+    let piece = rw (take_rest c.args.bytes.now c.loop-at.at) at c.in_ok-at.ensures.ok in
     record {
       within = omega (arith, c.in_ok-at.ensures.taken);
-      written =
-          Appends-take-add _ (g.W.Write.contents c.loop-at.out) _ c.args.bytes.now c.loop-at.at c.in_ok-at.field-0
-          c.loop-at.invariant.written (rw (take_rest c.args.bytes.now c.loop-at.at) at c.in_ok-at.ensures.ok);
+      written = Appends-take-add _ _ _ c.args.bytes.now c.loop-at.at c.in_ok-at.field-0 before piece;
     }
