@@ -1,0 +1,4 @@
+pub mod FlatBounds
+pub mod FlatFiles
+pub mod FlatTrees
+pub mod MembersLemmas
