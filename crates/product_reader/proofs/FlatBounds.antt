@@ -1,15 +1,17 @@
--- The ranges of a flat product's parts.
+-- The ranges of a flat product's values, from the bytes of its file.
 use Rattle.std.proofs.Common.{ℕ, ◌^◌, ◌≤◌, ℤ, pos, ◌*ℤ◌, ◌≤ℤ◌, nat_abs, List}
 use Rattle.product_reader.specs.FlatTree.{FlatProduct}
 use Rattle.product_reader.specs.FlatFile.{HasFlat}
 use Rattle.product_reader.specs.Names.{IsGoodName}
 
 -- the product's name is good
-pub HasFlat-name : {bytes : List ℕ} {product : FlatProduct} → HasFlat bytes product → IsGoodName 40 product.name
+pub HasFlat-name : {bytes : List ℕ} {product : FlatProduct} → HasFlat bytes product
+    → IsGoodName 40 product.name
 HasFlat-name file = file.flat.head.good_name
 
 -- the state's name is good
-pub HasFlat-state : {bytes : List ℕ} {product : FlatProduct} → HasFlat bytes product → IsGoodName 24 product.state
+pub HasFlat-state : {bytes : List ℕ} {product : FlatProduct} → HasFlat bytes product
+    → IsGoodName 24 product.state
 HasFlat-state file = file.flat.head.good_state
 
 -- the term is from 1 to 1200 months
@@ -28,5 +30,6 @@ pub HasFlat-interest : {bytes : List ℕ} {product : FlatProduct} → HasFlat by
 HasFlat-interest file = (file.flat.interest.2.least, file.flat.interest.2.most)
 
 -- the payment rate is at most 10^12 minor units per year in size
-pub HasFlat-rate : {bytes : List ℕ} {product : FlatProduct} → HasFlat bytes product → nat_abs product.rate ≤ 10 ^ 12
+pub HasFlat-rate : {bytes : List ℕ} {product : FlatProduct} → HasFlat bytes product
+    → nat_abs product.rate ≤ 10 ^ 12
 HasFlat-rate file = file.flat.sojourn.2.steps.2.most

@@ -3,7 +3,8 @@
 -- each of them is there, and there are no more than their number.
 use Rattle.std.specs.Prelude.{◌≡◌, ℕ, ◌^◌, ◌≤◌, ℤ, pos, ◌*ℤ◌, ◌≤ℤ◌, nat_abs, List, codes, Some}
 use Rattle.toml.specs.Data.{Members}
-use Rattle.product_reader.specs.Members.{key_count, whole_at, text_at, only_whole_at, only_text_at, only_table_at}
+use Rattle.product_reader.specs.Members.{key_count, whole_at, text_at}
+use Rattle.product_reader.specs.Members.{only_whole_at, only_text_at, only_table_at}
 use Rattle.product_reader.specs.Names.{IsGoodName}
 
 -- a flat product: its name and its state's, the term in months, the denominator of the force of interest,
@@ -58,6 +59,6 @@ pub record IsFlatSojourn (sojourn : Members) (name : List ℕ) (rate : ℤ) : Ty
 pub record IsFlat (tree : Members) (product : FlatProduct) : Type 0 where
   pub head : IsFlatHead tree product
   pub interest : (piece : Members) × (only_table_at (codes "interest") tree ≡ Some piece)
-    × IsFlatPiece piece product.den product.interest
+      × IsFlatPiece piece product.den product.interest
   pub sojourn : (sojourn : Members) × (only_table_at (codes "sojourn") tree ≡ Some sojourn)
-    × IsFlatSojourn sojourn product.state product.rate
+      × IsFlatSojourn sojourn product.state product.rate

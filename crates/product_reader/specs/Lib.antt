@@ -2,6 +2,6 @@ pub mod Flat
 pub mod FlatError
 pub mod FlatFile
 pub mod FlatTree
-pub mod Head
+pub mod Lent
 pub mod Members
 pub mod Names

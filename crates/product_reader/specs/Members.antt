@@ -1,6 +1,7 @@
 -- What a table of a TOML file holds at a key, where that has the wanted type.
 use Rattle.std.specs.Prelude.{ℕ, ◌+◌, ℤ, List, Option, Some, None, option_and_then}
-use Rattle.toml.specs.Data.{Data, Items, no_items, item, Members, no_members, member, get_member, as_integer, as_str, as_array, as_table}
+use Rattle.toml.specs.Data.{Data, Items, no_items, item, Members, no_members, member, get_member}
+use Rattle.toml.specs.Data.{as_integer, as_str, as_array, as_table}
 
 -- how many keys a table has
 abbrev pub key_count : Members → ℕ

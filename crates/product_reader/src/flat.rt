@@ -3,7 +3,7 @@ ghost use Rattle.std.specs.Prelude.{◌≡◌, ◌^◌, ◌≤◌, pos, ◌*ℤ�
 ghost use Rattle.product_reader.specs.Flat.{product_of};
 ghost use Rattle.product_reader.specs.FlatError.{ComesWhere};
 ghost use Rattle.product_reader.specs.FlatFile.{HasFlat, IsNotToml, IsNotFlat};
-ghost use Rattle.product_reader.specs.Head.{product_with};
+ghost use Rattle.product_reader.specs.Lent.{product_lent};
 ghost use Rattle.product_reader.specs.Names.{IsGoodName};
 
 use crate::tree::{FlatTree, flat_of};
@@ -38,10 +38,9 @@ pub enum FlatError {
     Memory,
 }
 
-fn copied(alloc: Global, tree: &FlatTree<'_>) -> Result<Flat, AllocError>
-    ensures {
-        IfOk result (λ flat. product_of flat ≡ product_with tree.now.head tree.now.interest tree.now.rate)
-    }
+/// The product of the tree, with texts of its own.
+fn flat_from(alloc: Global, tree: &FlatTree<'_>) -> Result<Flat, AllocError>
+    ensures { IfOk result (λ flat. product_of flat ≡ product_lent tree.now) }
 {
     Ok(Flat {
         name: tree.head.name.as_bytes().to_vec(alloc)?,
@@ -79,7 +78,7 @@ pub fn read_flat(alloc: Global, text: &[u8]) -> Result<Flat, FlatError>
         }
     };
     match flat_of(&table) {
-        Some(tree) => match copied(alloc, &tree) {
+        Some(tree) => match flat_from(alloc, &tree) {
             Ok(flat) => Ok(flat),
             Err(_) => Err(FlatError::Memory),
         },

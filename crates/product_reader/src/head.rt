@@ -2,7 +2,7 @@
 ghost use Rattle.std.specs.Prelude.{◌≡◌, ℕ, ℤ, pos, ◌≤◌, IfSome, IfNone};
 ghost use Rattle.toml.specs.View.{table_view};
 ghost use Rattle.product_reader.specs.FlatTree.{FlatProduct, IsFlatHead};
-ghost use Rattle.product_reader.specs.Head.{product_with};
+ghost use Rattle.product_reader.specs.Lent.{product_with};
 
 use crate::names::{PRODUCT_NAME_BYTES, STATE_NAME_BYTES, is_good_name};
 use crate::table::{key_count, only_text_at, text_at, whole_at};
@@ -40,10 +40,8 @@ fn months_of(number: i64) -> Option<u32>
 
 /// The head of the tree, where it is that of a flat file.
 pub fn head_of(tree: &Table) -> Option<Head<'_>>
-    ensures some {
-        IfSome result (λ head. (interest rate : ℤ) →
-            IsFlatHead (table_view tree.now) (product_with head interest rate))
-    }
+    ensures some { IfSome result (λ head. (interest rate : ℤ) →
+        IsFlatHead (table_view tree.now) (product_with head interest rate)) }
     ensures none { IfNone result ((product : FlatProduct) → ¬ IsFlatHead (table_view tree.now) product) }
 {
     if key_count(tree) != TOP_KEYS || whole_at(tree, "format") != Some(1) {

@@ -2,7 +2,7 @@
 ghost use Rattle.std.specs.Prelude.{IfSome, IfNone};
 ghost use Rattle.toml.specs.View.{table_view};
 ghost use Rattle.product_reader.specs.FlatTree.{FlatProduct, IsFlat};
-ghost use Rattle.product_reader.specs.Head.{product_with};
+ghost use Rattle.product_reader.specs.Lent.{product_lent};
 
 use crate::head::{Head, head_of};
 use crate::interest::interest_of;
@@ -20,9 +20,7 @@ pub struct FlatTree<'a> {
 
 /// What the tree holds, where it is flat.
 pub fn flat_of(tree: &Table) -> Option<FlatTree<'_>>
-    ensures some {
-        IfSome result (λ flat. IsFlat (table_view tree.now) (product_with flat.head flat.interest flat.rate))
-    }
+    ensures some { IfSome result (λ flat. IsFlat (table_view tree.now) (product_lent flat)) }
     ensures none { IfNone result ((product : FlatProduct) → ¬ IsFlat (table_view tree.now) product) }
 {
     let Some(head) = head_of(tree) else {
