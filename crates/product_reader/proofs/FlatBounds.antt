@@ -1,5 +1,5 @@
 -- The ranges of a flat product's values, from the bytes of its file.
-use Rattle.std.proofs.Common.{ℕ, ◌^◌, ◌≤◌, ℤ, pos, ◌*ℤ◌, ◌≤ℤ◌, nat_abs, List}
+use Rattle.std.proofs.Common.{ℕ, ◌^◌, ◌≤◌, pos, ◌*ℤ◌, ◌≤ℤ◌, nat_abs, List}
 use Rattle.product_reader.specs.FlatTree.{FlatProduct}
 use Rattle.product_reader.specs.FlatFile.{HasFlat}
 use Rattle.product_reader.specs.Names.{IsGoodName}
