@@ -1,2 +1,3 @@
 pub mod LedgerLaws
 pub mod RoundingLaws
+pub mod WholeProducts
