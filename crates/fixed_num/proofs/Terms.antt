@@ -40,10 +40,12 @@ fits_by_size z m within small = fits_signed_from_abs w128 z (omega arith)
 
 pub partial_sum-more : (xs factors : List ℤ) (i : ℕ) (sum : ℤ) → i < length xs → length factors ≡ length xs
     → IsPartialSum xs factors i sum → IsPartialSum xs factors (i + 1) (sum +ℤ term xs factors i)
-partial_sum-more xs factors i sum inside lengths so_far = record {
-  rest = rw (+ℤ_assoc, ← sum_of_products-drop xs factors i inside (omega arith)) so_far.rest;
-  size = omega (arith, so_far.size, size_of_sum sum (term xs factors i), sum_of_sizes-drop xs factors i inside (omega arith));
-}
+partial_sum-more xs factors i sum inside lengths so_far =
+    let left = sum_of_sizes-drop xs factors i inside (omega arith) in
+    record {
+      rest = rw (+ℤ_assoc, ← sum_of_products-drop xs factors i inside (omega arith)) so_far.rest;
+      size = omega (arith, so_far.size, size_of_sum sum (term xs factors i));
+    }
 
 pub term_fits : (xs factors : List ℤ) (i : ℕ) (sum : ℤ) → i < length xs → length factors ≡ length xs
     → IsPartialSum xs factors i sum → sum_of_sizes xs factors < 2 ^ 126 → FitsSigned w128 (term xs factors i)

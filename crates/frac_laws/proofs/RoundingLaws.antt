@@ -116,4 +116,5 @@ floor-le-ceiling a (negsuc d) positive = absurd (omega (arith, ints))
 floor-le-ceiling a (pos d) positive =
     let below = floor_low a (pos d) positive in
     let above = ceiling_high a (pos d) positive in
-    product_le_cancel (floor_of a (pos d)) (ceiling_of a (pos d)) d (omega (arith, ints)) (omega (arith, ints))
+    let some : 0 < d = omega (arith, ints) in
+    product_le_cancel (floor_of a (pos d)) (ceiling_of a (pos d)) d some (omega (arith, ints))

@@ -69,8 +69,9 @@ next-product a d = omega (arith, ints, sum-product a (pos 1) d, pos-*ℤ-pos 1 d
 -- a multiple below the next multiple of b is at most that of b
 pub product_lt_next : (a b : ℤ) (d : ℕ) → (a *ℤ pos d) <ℤ ((b *ℤ pos d) +ℤ pos d) → a ≤ℤ b
 product_lt_next a b d order =
+    let next = next-product b d in
     by_lt_z b a
-    (λ less. absurd (omega (arith, ints, product_le (b +ℤ pos 1) a d (omega (arith, ints)), next-product b d)))
+    (λ less. absurd (omega (arith, ints, product_le (b +ℤ pos 1) a d (omega (arith, ints)))))
     (λ le. le)
 
 -- a positive factor is taken off both sides

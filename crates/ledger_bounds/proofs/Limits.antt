@@ -29,5 +29,5 @@ whole_quotient units g order =
     let places : (g - 32) + 32 ≡ g = omega arith in
     let power : 4 ^ (g - 32) * 2 ^ 64 ≡ 4 ^ g = sym (pow-add 4 (g - 32) 32) ∙ ap (λ k. 4 ^ k) places in
     let product : units * 4 ^ (g - 32) * 2 ^ 64 ≡ units * 4 ^ g =
-      mul_assoc units (4 ^ (g - 32)) (2 ^ 64) ∙ ap (λ n. units * n) power in
+    mul_assoc units (4 ^ (g - 32)) (2 ^ 64) ∙ ap (λ n. units * n) power in
     sym (div_ceil-multiple (units * 4 ^ (g - 32)) (2 ^ 64) (lit< tt)) ∙ ap (λ n. div_ceil n (2 ^ 64)) product

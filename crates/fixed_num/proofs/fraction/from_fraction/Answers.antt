@@ -32,12 +32,16 @@ returns-clause-value c =
     let product_fits = shifted_fits c.next_bits-high.result.quotient c.next_bits-high.ensures.size in
     let high = c.next_bits-high.result in
     let low = c.next_bits-low.result in
-    let total_fits = joined_fits high.quotient low.quotient c.next_bits-high.ensures.size c.next_bits-low.ensures.size in
+    let high_size = c.next_bits-high.ensures.size in
+    let low_size = c.next_bits-low.ensures.size in
+    let total_fits = joined_fits high.quotient low.quotient high_size low_size in
     let first = simp to_z-of_z at c.next_bits-high.ensures.whole in
     let second = simp to_z-of_z at c.next_bits-low.ensures.whole in
     let last = simp to_z-of_z at c.next_bits-low.ensures.high in
-    simp to_z-of_z (sym (floor_in_two_steps c.args.num high.quotient high.left low.quotient low.left c.args.den
-    c.requires.positive first second c.next_bits-low.ensures.low last))
+    let floor =
+    floor_in_two_steps c.args.num high.quotient high.left low.quotient low.left c.args.den
+    c.requires.positive first second c.next_bits-low.ensures.low last in
+    simp to_z-of_z (sym floor)
 
 pub returns-clause-size : goal.returns-clause-size
 returns-clause-size c =

@@ -30,4 +30,5 @@ returns-else-g-lt32-clause-value c =
 
 pub returns-else-g-lt32-clause-size : goal.returns-else-g-lt32-clause-size
 returns-else-g-lt32-clause-size c =
-    rw c.pow-else-g-lt32.ensures (squared_product c.args.units (c.args.g - 32) 24 c.requires.number (omega arith))
+    let product = squared_product c.args.units (c.args.g - 32) 24 c.requires.number (omega arith) in
+    rw c.pow-else-g-lt32.ensures product
