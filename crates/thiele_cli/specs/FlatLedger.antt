@@ -18,9 +18,13 @@ phi40 p = div_ceil (2 ^ 40 * (6 * nat_abs p.interest)) (768 * nat_abs p.den)
 abbrev pub kappa40 : FlatProduct → ℕ
 kappa40 p = div_ceil (9 * phi40 p ^ 2) (2 ^ 44) + div_ceil (2 ^ 40 * size_below_zero p.interest) (192 * nat_abs p.den)
 
--- the payment of a cell in 1/1024 minor units: ceil(1024 * |rate| / 192)
+-- the payment of a cell in 1/1024 minor units, for a rate in minor units per year: ceil(1024 * |rate| / 192)
+abbrev pub rate_pay1024 : ℤ → ℕ
+rate_pay1024 rate = div_ceil (1024 * nat_abs rate) 192
+
+-- the payment of a cell of the product
 abbrev pub pay1024 : FlatProduct → ℕ
-pay1024 p = div_ceil (1024 * nat_abs p.rate) 192
+pay1024 p = rate_pay1024 p.rate
 
 -- a ledger that starts with 0 at the term, grows in each cell and adds the same in each, after that many cells
 abbrev pub ledger_after : ℕ → ℕ → ℕ → ℕ

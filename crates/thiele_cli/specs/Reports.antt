@@ -1,6 +1,7 @@
 -- What a report of the value of a flat product says, and that it is right.
-use Rattle.std.specs.Prelude.{◌≡◌, ℕ, ◌≤◌, ◌^◌, ℤ, pos, ◌+ℤ◌, ◌≤ℤ◌, List, [], ◌∷◌}
+use Rattle.std.specs.Prelude.{◌≡◌, ℕ, ◌≤◌, ◌*◌, ◌^◌, ℤ, pos, ◌+ℤ◌, ◌-ℤ◌, ◌*ℤ◌, ◌≤ℤ◌, List, [], ◌∷◌}
 use Rattle.frac_laws.specs.Fraction.{whole, ◌*ℚ◌, ◌≤ℚ◌}
+use Rattle.frac_laws.specs.Rounding.{floor_of, ceiling_of}
 use Rattle.product_reader.specs.FlatTree.{FlatProduct}
 use Rattle.thiele_cli.specs.declared.report.Kind.TheVariants as kind
 use Rattle.thiele_cli.specs.declared.report.What.TheVariants as what
@@ -13,6 +14,15 @@ use Rattle.thiele_cli.specs.FlatLedger.{scale, tolerance}
 pub record Encloses (p : FlatProduct) (from_degree : ℕ) (lo hi : ℤ) : Type 0 where
   pub low : (n : ℕ) → from_degree ≤ n → whole lo ≤ℚ whole (pos (10 ^ 6)) *ℚ value_at_issue p n
   pub high : (n : ℕ) → from_degree ≤ n → whole (pos (10 ^ 6)) *ℚ value_at_issue p n ≤ℚ whole hi
+
+-- the ends, in millionths, of a midpoint less and plus its radius, both in units of 2^-64 at the scale 2^g: rounded outward
+pub record AreEnds (mid : ℤ) (radius g : ℕ) (lo hi : ℤ) : Type 0 where
+  pub low : lo ≡ floor_of ((mid -ℤ pos radius) *ℤ pos (2 ^ g * 10 ^ 6)) (pos (2 ^ 64))
+  pub high : hi ≡ ceiling_of ((mid +ℤ pos radius) *ℤ pos (2 ^ g * 10 ^ 6)) (pos (2 ^ 64))
+
+-- the value at issue without interest, in units of 2^-64 at the scale 2^g: each cell's payment is rounded down
+abbrev pub rounded_value : ℕ → ℤ → ℕ → ℤ
+rounded_value cells rate g = pos cells *ℤ floor_of (rate *ℤ pos (2 ^ 64)) (pos (384 * 2 ^ g))
 
 -- the row is of month 0 and the one state, holds the value from the degree on, and is no wider than the tolerance
 pub record IsValueRow (p : FlatProduct) (degree : ℕ) (row : Row) : Type 0 where

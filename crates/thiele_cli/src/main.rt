@@ -2,12 +2,15 @@
 #![tactic(auto)]
 
 mod decimal;
+mod enclosure;
 mod end;
+mod ledger;
 mod pieces;
 mod plan;
 mod report;
 mod report_text;
 mod run;
+mod sweep;
 mod valuation;
 mod words;
 
