@@ -58,11 +58,11 @@ pub lower_end_below : (lo rate : ℤ) (cells w g m u : ℕ) → 0 < u → 0 < g
 lower_end_below lo rate cells w g m u some_units some_scale is_floor =
     let payment = floor_of (rate *ℤ pos u) (pos (384 * g)) in
     let end : (lo *ℤ pos u) ≤ℤ (((pos cells *ℤ payment) -ℤ pos w) *ℤ pos (g * m)) =
-          rw is_floor (floor_low (((pos cells *ℤ payment) -ℤ pos w) *ℤ pos (g * m)) (pos u) (positive u some_units)) in
+    rw is_floor (floor_low (((pos cells *ℤ payment) -ℤ pos w) *ℤ pos (g * m)) (pos u) (positive u some_units)) in
     let rounded = floor_low (rate *ℤ pos u) (pos (384 * g)) (positive_384 g some_scale) in
     let gap = low_gap (whole lo) (whole payment) (whole rate) (whole (pos cells)) (whole (pos w)) (whole (pos g)) (whole (pos m)) (whole (pos u))
-          (simp (whole_mul, whole_sub, whole_nat_mul) at (whole_le end)) (simp (whole_mul, whole_nat_mul) at (whole_le rounded))
-          (natural_product cells m) (natural_products w g m) in
+    (simp (whole_mul, whole_sub, whole_nat_mul) at (whole_le end)) (simp (whole_mul, whole_nat_mul) at (whole_le rounded))
+    (natural_product cells m) (natural_products w g m) in
     product_le_cancel (lo *ℤ pos 384) (pos m *ℤ (pos cells *ℤ rate)) u some_units (le_of_whole (simp whole_mul gap))
 
 -- the upper end is at least the value, where the radius has a unit for each cell
@@ -72,12 +72,12 @@ pub upper_end_above : (hi rate : ℤ) (cells w g m u : ℕ) → 0 < u → 0 < g 
 upper_end_above hi rate cells w g m u some_units some_scale rounds is_ceiling =
     let payment = floor_of (rate *ℤ pos u) (pos (384 * g)) in
     let end : (((pos cells *ℤ payment) +ℤ pos w) *ℤ pos (g * m)) ≤ℤ (hi *ℤ pos u) =
-          rw is_ceiling (ceiling_high (((pos cells *ℤ payment) +ℤ pos w) *ℤ pos (g * m)) (pos u) (positive u some_units)) in
+    rw is_ceiling (ceiling_high (((pos cells *ℤ payment) +ℤ pos w) *ℤ pos (g * m)) (pos u) (positive u some_units)) in
     let below = floor_high (rate *ℤ pos u) (pos (384 * g)) (positive_384 g some_scale) in
     let rounded : (rate *ℤ pos u) ≤ℤ ((payment *ℤ pos (384 * g)) +ℤ pos (384 * g)) = omega (arith, ints, below) in
     let gap = high_gap (whole hi) (whole payment) (whole rate) (whole (pos cells)) (whole (pos w)) (whole (pos g)) (whole (pos m)) (whole (pos u))
-          (simp (whole_mul, whole_add, whole_nat_mul) at (whole_le end)) (simp (whole_mul, whole_add, whole_nat_mul) at (whole_le rounded))
-          (whole_le (omega (arith, ints))) (natural_product cells m) (natural_product g m) in
+    (simp (whole_mul, whole_add, whole_nat_mul) at (whole_le end)) (simp (whole_mul, whole_add, whole_nat_mul) at (whole_le rounded))
+    (whole_le (omega (arith, ints))) (natural_product cells m) (natural_product g m) in
     product_le_cancel (pos m *ℤ (pos cells *ℤ rate)) (hi *ℤ pos 384) u some_units (le_of_whole (simp whole_mul gap))
 
 -- the ends are no further apart than so many millionths and two
@@ -90,12 +90,13 @@ ends_within_room lo hi mid w g m u room some_units enough is_floor is_ceiling =
     let above = ceiling_low ((mid +ℤ pos w) *ℤ pos (g * m)) (pos u) (positive u some_units) in
     let high : (hi *ℤ pos u) ≤ℤ (((mid +ℤ pos w) *ℤ pos (g * m)) +ℤ pos u) = rw is_ceiling (omega (arith, ints, above)) in
     let gap = width_gap (whole hi) (whole lo) (whole mid) (whole (pos w)) (whole (pos g)) (whole (pos m)) (whole (pos room)) (whole (pos u))
-          (simp (whole_mul, whole_add, whole_nat_mul) at (whole_le high)) (simp (whole_mul, whole_add, whole-opposite, whole_nat_mul) at (whole_le low))
-          (simp whole_nat_mul at (whole_le (nat_le (2 * (w * (g * m))) (room * u) enough))) in
+    (simp (whole_mul, whole_add, whole_nat_mul) at (whole_le high)) (simp (whole_mul, whole_add, whole-opposite, whole_nat_mul) at (whole_le low))
+    (simp whole_nat_mul at (whole_le (nat_le (2 * (w * (g * m))) (room * u) enough))) in
     product_le_cancel hi (lo +ℤ pos (room + 2)) u some_units (le_of_whole (simp (whole_mul, whole_add, whole_nat_add) gap))
   where
     nat_le : (a b : ℕ) → a ≤ b → pos a ≤ℤ pos b
     nat_le a b order = omega (arith, ints)
+
     whole_nat_add : (a b : ℕ) → whole (pos (a + b)) ≡ whole (pos a) +ℚ whole (pos b)
     whole_nat_add a b = let sum : pos (a + b) ≡ pos a +ℤ pos b = omega (arith, ints) in ap whole sum ∙ whole_add (pos a) (pos b)
 

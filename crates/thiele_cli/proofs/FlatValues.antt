@@ -34,6 +34,6 @@ pub value_before_term-nothing : (p : FlatProduct) (n cells : ℕ) → p.interest
 value_before_term-nothing p n zero none = ring (cell_payment p ∷ []) (hlevel terms) refl
 value_before_term-nothing p n (suc cells) none =
     taylor_value-nothing p (value_before_term p (suc n) cells) n none
-      ∙ ap (λ v. v +ℚ cell_payment p) (value_before_term-nothing p n cells none)
-      ∙ ring (whole (pos cells) ∷ cell_payment p ∷ []) (hlevel terms) refl
-      ∙ ap (λ c. c *ℚ cell_payment p) (sym (whole_suc cells))
+    ∙ ap (λ v. v +ℚ cell_payment p) (value_before_term-nothing p n cells none)
+    ∙ ring (whole (pos cells) ∷ cell_payment p ∷ []) (hlevel terms) refl
+    ∙ ap (λ c. c *ℚ cell_payment p) (sym (whole_suc cells))

@@ -18,7 +18,7 @@ pub row_lines_more : (p : FlatProduct) (rows : List Row) (tolerances : List ℕ)
 row_lines_more p rows tolerances i d e same within =
     let as_long : length (take i rows) ≡ length (take i tolerances) = simp length-take (ap (λ n. min i n) same) in
     rw (take_more rows i d within, take_more tolerances i e (omega arith))
-      (row_lines-append p (take i rows) (take i tolerances) (get_or rows i d) (get_or tolerances i e) as_long)
+    (row_lines-append p (take i rows) (take i tolerances) (get_or rows i d) (get_or tolerances i e) as_long)
 
 -- the lines of all the rows
 pub row_lines_all : (p : FlatProduct) (rows : List Row) (tolerances : List ℕ) (i : ℕ) → length rows ≡ length tolerances → length rows ≤ i → row_lines p (take i rows) (take i tolerances) ≡ row_lines p rows tolerances

@@ -58,11 +58,15 @@ report_is_right p r row g w none is_kind is_what is_scale is_radius degree r_sca
       most_degree = omega (arith, degree);
       scale = r_scale ∙ scales;
       tolerance = rw (← tolerances) r_tolerance;
-      row = (row, r_rows, record {
-        month = month;
-        state = state;
-        is_value = is_what;
-        holds = rw degree (ends_enclose p g w row.lo row.hi none rounds ends);
-        narrow = rw (← tolerances) (ends_within row.lo row.hi (rounded_value (cells_of p) p.rate g) w (2 ^ g) (10 ^ 6) (2 ^ 64) (omega arith) ends.low ends.high);
-      });
+      row = (
+        row,
+        r_rows,
+        record {
+          month = month;
+          state = state;
+          is_value = is_what;
+          holds = rw degree (ends_enclose p g w row.lo row.hi none rounds ends);
+          narrow = rw (← tolerances) (ends_within row.lo row.hi (rounded_value (cells_of p) p.rate g) w (2 ^ g) (10 ^ 6) (2 ^ 64) (omega arith) ends.low ends.high);
+        },
+      );
     }

@@ -53,7 +53,7 @@ row_lines p (row ∷ rows) (tolerance ∷ tolerances) = row_line p row tolerance
 abbrev pub head_lines : FlatProduct → Report → List ℕ
 head_lines p r =
     codes "report " ++ kind_word r.kind ++ codes " " ++ p.name ++ codes "\ndegree " ++ decimal r.degree
-      ++ codes " scale " ++ decimal r.scale ++ codes "\n"
+    ++ codes " scale " ++ decimal r.scale ++ codes "\n"
 
 -- the whole text: the first two lines, the rows, and their number
 abbrev pub report_text : FlatProduct → Report → List ℕ

@@ -11,6 +11,8 @@ mod report;
 mod report_text;
 mod run;
 mod sweep;
+#[cfg(test)]
+mod tests;
 mod valuation;
 mod words;
 

@@ -103,7 +103,11 @@ fn plan_file(alloc: Global, bytes: &[u8]) -> Result<Plan, AllocError>
 
 /// What the words and the file that they name lead to. Words that ask for nothing that is built are refused before
 /// the fetch.
-pub fn plan_words<H: Shelf>(alloc: Global, words: &[String], shelf: &mut H) -> Result<Plan, AllocError>
+pub fn plan_words<H: Shelf>(
+    alloc: Global,
+    words: &[String],
+    shelf: &mut H,
+) -> Result<Plan, AllocError>
     ensures settles { IfOk result (λ plan. Settles (H.files shelf.old) (words_of words.now) plan.end plan.report plan.text.items) }
     ensures failed { IfOk result (λ plan. H.failed shelf.new ≡ H.failed shelf.old ++ failed_name plan.end (words_of words.now)) }
     ensures memory { OnErr result (H.failed shelf.new ≡ H.failed shelf.old) }

@@ -42,7 +42,12 @@ fn push_subject(alloc: Global, out: &mut Vec<u8>, flat: &Flat, row: &Row) -> Res
 }
 
 /// Appends the ends and the tolerance of a row.
-fn push_interval(alloc: Global, out: &mut Vec<u8>, row: &Row, tolerance: u128) -> Result<(), AllocError>
+fn push_interval(
+    alloc: Global,
+    out: &mut Vec<u8>,
+    row: &Row,
+    tolerance: u128,
+) -> Result<(), AllocError>
     ensures { OnOk result (out.new.items ≡ out.old.items ++ row_interval row.now tolerance) }
 {
     push_millionths(alloc, out, row.lo)?;
@@ -69,7 +74,12 @@ fn push_row(
 }
 
 /// Appends the first two lines.
-fn push_head(alloc: Global, out: &mut Vec<u8>, flat: &Flat, report: &Report) -> Result<(), AllocError>
+fn push_head(
+    alloc: Global,
+    out: &mut Vec<u8>,
+    flat: &Flat,
+    report: &Report,
+) -> Result<(), AllocError>
     ensures { OnOk result (out.new.items ≡ out.old.items ++ head_lines (product_of flat.now) report.now) }
 {
     out.extend_from_slice(b"report ")?;

@@ -13,4 +13,4 @@ loop-at-preserved g c = record {
 pub returns-in-Err-clause-written_at_fault : goal.returns-in-Err-clause-written_at_fault
 returns-in-Err-clause-written_at_fault g c =
     grows_by_prefix _ (g.K.Sink.written c.loop-at.sink) _ c.args.text.now c.loop-at.at _
-      c.loop-at.invariant.written c.in-Err.ensures.written_at_fault
+    c.loop-at.invariant.written c.in-Err.ensures.written_at_fault

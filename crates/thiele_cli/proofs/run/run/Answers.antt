@@ -35,7 +35,7 @@ returns-in-Ok-write_pieces-clause-too_long g c = λ seen. record {
 pub returns-in-Ok-write_pieces-clause-complete : goal.returns-in-Ok-write_pieces-clause-complete
 returns-in-Ok-write_pieces-clause-complete g c = λ p named told same no_rise.
     done_or_memory _ (comes _ _ _ _ c.in-Ok.plan.end Done _ _ c.in-Ok.ensures.settles c.in-Ok.ensures.failed (ends_valued _ _ p named) told same)
-      (not_a_write_fault _ _ c.in-Ok.plan.end _ _ c.in-Ok.ensures.settles)
+    (not_a_write_fault _ _ c.in-Ok.plan.end _ _ c.in-Ok.ensures.settles)
 
 pub returns-clause-complete : goal.returns-clause-complete
 returns-clause-complete g c = λ p named told same no_rise. absurd (no_rise c.in-Err-write_pieces.ensures.fault)

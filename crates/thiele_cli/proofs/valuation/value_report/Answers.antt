@@ -14,6 +14,6 @@ returns-clause-report c =
     let rows : c.push.new.self.items ≡ c.value_row.result ∷ [] = rw c.new-rows.ensures.items at c.in_ok-push.ensures.items in
     let tolerances : c.push-2.new.self.items ≡ c.tolerance_first.result ∷ [] = rw c.new-tolerance.ensures.items at c.in_ok-push-2.ensures.items in
     report_is_right (product_of c.args.flat.now) _ c.value_row.result c.scale_for-scale.result c.ledger-radius.result
-      c.requires.no_interest refl c.value_row.ensures.is_value scales c.ledger-radius.ensures.value
-      refl refl (rw c.tolerance_first.ensures.value at tolerances) rows
-      c.value_row.ensures.month c.value_row.ensures.state ends
+    c.requires.no_interest refl c.value_row.ensures.is_value scales c.ledger-radius.ensures.value
+    refl refl (rw c.tolerance_first.ensures.value at tolerances) rows
+    c.value_row.ensures.month c.value_row.ensures.state ends
