@@ -11,6 +11,9 @@ pub mod Powers
 pub mod Signs
 pub mod Floors
 pub mod QuotientFacts
+pub mod Positive
+pub mod Division
+pub mod GeometricTails
 pub mod RatioOrder
 pub mod Convolutions
 pub mod Vectors
