@@ -14,6 +14,8 @@ pub mod QuotientFacts
 pub mod Positive
 pub mod Division
 pub mod GeometricTails
+pub mod Reduced
+pub mod ClosedProofs
 pub mod RatioOrder
 pub mod Convolutions
 pub mod Vectors

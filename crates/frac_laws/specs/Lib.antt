@@ -1,7 +1,9 @@
+pub mod ClosedChecks
 pub mod Convolution
 pub mod FloorLaws
 pub mod Fraction
 pub mod Ledger
+pub mod ListProducts
 pub mod Lists
 pub mod NormLaws
 pub mod Norms
