@@ -16,8 +16,13 @@ pub mod Division
 pub mod GeometricTails
 pub mod Reduced
 pub mod ClosedProofs
+pub mod ListProducts
 pub mod RatioOrder
 pub mod Convolutions
 pub mod Vectors
 pub mod Norms
 pub mod SmallNumbers
+pub mod RingFacts
+pub mod OrderFacts
+pub mod SizeFacts
+pub mod SumFacts

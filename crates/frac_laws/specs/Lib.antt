@@ -7,7 +7,11 @@ pub mod ListProducts
 pub mod Lists
 pub mod NormLaws
 pub mod Norms
+pub mod OrderLaws
 pub mod QuotientLaws
 pub mod RatioValue
+pub mod RingLaws
 pub mod Rounding
+pub mod SizeLaws
+pub mod SumLaws
 pub mod Sums

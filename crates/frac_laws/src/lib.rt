@@ -4,6 +4,11 @@
 mod floor_laws;
 mod norm_laws;
 mod quotient_laws;
+mod ring_laws;
+mod order_laws;
+mod size_laws;
+mod sum_laws;
+mod closed_checks;
 mod ratio;
 
 pub use floor_laws::{
@@ -20,4 +25,9 @@ pub use quotient_laws::{
     quotients_have_opposites, quotients_multiply, quotients_times_divisor, whole_numbers_add,
     whole_numbers_compare, whole_numbers_multiply,
 };
+pub use ring_laws::{sums_commute, sums_associate, zero_adds_nothing, opposites_cancel, products_commute, products_associate, one_times_is_same, products_distribute, difference_is_sum, division_undoes_product};
+pub use order_laws::{order_is_reflexive, order_is_transitive, order_is_antisymmetric, order_is_total, below_is_not_at_least, sums_keep_order, sums_keep_strict_order, products_keep_order, products_keep_strict_order, positive_factors_cancel, greater_is_least_upper_bound, lesser_is_greatest_lower_bound};
+pub use size_laws::{size_is_not_negative, size_is_within, size_of_sum, size_of_product, size_of_opposite};
+pub use sum_laws::{sum_of_sums, sum_of_multiples, sums_exchange, size_of_sum_is_within_sizes, powers_add, powers_of_products, powers_sum, tail_of_eighths_is_small, total_of_list_product, numbers_of_list_product, convolution_has_total};
+pub use closed_checks::{third_taylor_value, long_quotients_are_ordered, product_of_ten_terms};
 pub use ratio::Ratio;
