@@ -26,3 +26,4 @@ pub mod RingFacts
 pub mod OrderFacts
 pub mod SizeFacts
 pub mod SumFacts
+pub mod WorkedCalls

@@ -15,3 +15,4 @@ pub mod Rounding
 pub mod SizeLaws
 pub mod SumLaws
 pub mod Sums
+pub mod WorkedCalls

@@ -8,6 +8,7 @@ mod ring_laws;
 mod order_laws;
 mod size_laws;
 mod sum_laws;
+mod worked_calls;
 mod closed_checks;
 mod ratio;
 
@@ -31,3 +32,4 @@ pub use size_laws::{size_is_not_negative, size_is_within, size_of_sum, size_of_p
 pub use sum_laws::{sum_of_sums, sum_of_multiples, sums_exchange, size_of_sum_is_within_sizes, powers_add, powers_of_products, powers_sum, tail_of_eighths_is_small, total_of_list_product, numbers_of_list_product, convolution_has_total};
 pub use closed_checks::{third_taylor_value, long_quotients_are_ordered, product_of_ten_terms};
 pub use ratio::Ratio;
+pub use worked_calls::{difference_of_squares, middle_is_half_way, products_distribute_over_sum, eighths_make_a_quarter, growth_keeps_order, bound_is_divided, thirds_make_it_strict, equations_are_used, sum_of_sizes_is_not_negative, floor_in_units_is_within_one};
