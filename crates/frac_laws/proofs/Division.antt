@@ -5,7 +5,6 @@ use Rattle.frac_laws.specs.Fraction.{Fraction, over, whole, divided_by, size, �
 use Rattle.frac_laws.specs.Sums.{sum_to}
 use Rattle.frac_laws.proofs.FractionTerms.{ring, terms}
 use Rattle.frac_laws.proofs.Linear.{linear, linear_lt, equal, claims, natural, ◌⊞◌, ◌⊠◌, ◌·◌}
-use Rattle.frac_laws.proofs.Order.{le_of_lt}
 use Rattle.frac_laws.proofs.Positive.{over_positive, mul_lt}
 use Rattle.frac_laws.proofs.Quotients.{inverse, over_mul, times_one}
 use Rattle.frac_laws.proofs.Sizes.{size_mul, size_of_natural}
@@ -28,14 +27,16 @@ divided_mul x y d = ring (x ∷ y ∷ over (pos 1) d ∷ []) (hlevel terms) refl
 pub divided_over : (n : ℤ) (d e : ℕ) → 1 ≤ d → 1 ≤ e → divided_by (over n d) e ≡ over n (d * e)
 divided_over n d e a b = over_mul n (pos 1) d e a b ∙ ap (λ z. over z (d * e)) (times_one n)
 
-pub divided_sum : (n d : ℕ) (f : ℕ → Fraction) → sum_to n (λ k. divided_by (f k) d) ≡ divided_by (sum_to n f) d
+pub divided_sum : (n d : ℕ) (f : ℕ → Fraction)
+    → sum_to n (λ k. divided_by (f k) d) ≡ divided_by (sum_to n f) d
 divided_sum n d f = sum_to_scale_right n (over (pos 1) d) f
 
 pub divided_mono : {x y : Fraction} (d : ℕ) → x ≤ℚ y → divided_by x d ≤ℚ divided_by y d
 divided_mono {x} {y} d h = linear (x ∷ y ∷ over (pos 1) d ∷ []) (h ⊠ natural 1 d) (hlevel claims) refl
 
 pub divided_lt : {x y : Fraction} (d : ℕ) → 1 ≤ d → x <ℚ y → divided_by x d <ℚ divided_by y d
-divided_lt {x} {y} d a h = linear_lt (x ∷ y ∷ over (pos 1) d ∷ []) (mul_lt (over_positive 1 d (omega arith) a) h) (hlevel claims) refl
+divided_lt {x} {y} d a h = linear_lt (x ∷ y ∷ over (pos 1) d ∷ [])
+    (mul_lt (over_positive 1 d (omega arith) a) h) (hlevel claims) refl
 
 -- a bound of the quotient is a bound of the number, and back
 pub divided_le : {x r : Fraction} (d : ℕ) → 1 ≤ d → x ≤ℚ whole (pos d) *ℚ r → divided_by x d ≤ℚ r

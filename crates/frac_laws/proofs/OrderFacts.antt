@@ -1,9 +1,11 @@
 -- Laws of the order in the form of their statements.
-use Rattle.std.specs.Prelude.{pos, [], ◌∷◌}
+use Rattle.std.specs.Prelude.{[], ◌∷◌}
 use Rattle.std.proofs.Common.{refl}
-use Rattle.frac_laws.specs.OrderLaws.{OrderIsTransitive, OrderIsAntisymmetric, BelowIsNotAtLeast, SumsKeepOrder}
+use Rattle.frac_laws.specs.OrderLaws.{OrderIsTransitive, OrderIsAntisymmetric, BelowIsNotAtLeast}
+use Rattle.frac_laws.specs.OrderLaws.{SumsKeepOrder}
 use Rattle.frac_laws.specs.OrderLaws.{SumsKeepStrictOrder, ProductsKeepOrder, ProductsKeepStrictOrder}
-use Rattle.frac_laws.specs.OrderLaws.{PositiveFactorsCancel, GreaterIsLeastUpperBound, LesserIsGreatestLowerBound}
+use Rattle.frac_laws.specs.OrderLaws.{PositiveFactorsCancel, GreaterIsLeastUpperBound}
+use Rattle.frac_laws.specs.OrderLaws.{LesserIsGreatestLowerBound}
 use Rattle.frac_laws.proofs.Order as O
 use Rattle.frac_laws.proofs.Linear.{linear, claims, ◌⊠◌}
 use Rattle.frac_laws.proofs.Positive.{mul_lt, le_of_mul_le}
@@ -34,7 +36,21 @@ pub cancel : PositiveFactorsCancel
 cancel c x y h k = le_of_mul_le h k
 
 pub upper : GreaterIsLeastUpperBound
-upper x y r = (λ h. (O.le_trans (E.le_greater_left x y) h, O.le_trans (E.le_greater_right x y) h), λ h. E.greater_le x y h.0 h.1)
+upper x y r = (
+  λ h. (
+    O.le_trans (E.le_greater_left x y) h,
+    O.le_trans
+        (E.le_greater_right x y) h,
+  ),
+  λ h. E.greater_le x y h.0 h.1,
+)
 
 pub lower : LesserIsGreatestLowerBound
-lower x y r = (λ h. (O.le_trans h (E.lesser_le_left x y), O.le_trans h (E.lesser_le_right x y)), λ h. E.le_lesser x y h.0 h.1)
+lower x y r = (
+  λ h. (
+    O.le_trans h (E.lesser_le_left x y),
+    O.le_trans h
+        (E.lesser_le_right x y),
+  ),
+  λ h. E.le_lesser x y h.0 h.1,
+)

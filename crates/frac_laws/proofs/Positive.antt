@@ -3,15 +3,14 @@ use Rattle.std.specs.Prelude.{◌≡◌, ℕ, zero, suc, pos, negsuc, ℤ, ◌*�
 use Rattle.std.proofs.Common.{refl, arith, sym}
 use Rattle.std.proofs.lemmas.Int.{ints}
 use mathlib.Core.Bool.{Bool-set}
-use mathlib.Core.Quot.{mk, ind}
-use Rattle.frac_base.specs.Pair.{Pair, bottom, product_of, zero_pair}
-use Rattle.frac_base.proofs.WholeTerms as W
-use Rattle.frac_laws.specs.Fraction.{Fraction, over, whole, ◌+ℚ◌, ◌*ℚ◌, ◌-ℚ◌, ◌≤ℚ◌, ◌<ℚ◌}
+use mathlib.Core.Quot.{ind}
+use Rattle.frac_base.specs.Pair.{bottom, product_of, zero_pair}
+use Rattle.frac_laws.specs.Fraction.{Fraction, over, whole, ◌*ℚ◌, ◌-ℚ◌, ◌≤ℚ◌, ◌<ℚ◌}
 use Rattle.frac_laws.proofs.FractionRing.{mk-product_of}
-use Rattle.frac_laws.proofs.FractionTerms.{ring, terms}
-use Rattle.frac_laws.proofs.Order.{le_of_not_lt, lt_of_not_le, not_le_of_lt, le_of_lt, le_antisym, le_of_equal}
-use Rattle.frac_laws.proofs.Linear.{linear, linear_lt, claims, ◌⊞◌, ◌⊠◌}
-use Rattle.frac_laws.proofs.Quotients.{cross_of_lt, lt_of_cross, over_lt_of_cross, whole_lt}
+use Rattle.frac_laws.proofs.Order.{le_of_not_lt, lt_of_not_le, not_le_of_lt, le_of_lt, le_antisym}
+use Rattle.frac_laws.proofs.Order.{le_of_equal}
+use Rattle.frac_laws.proofs.Linear.{linear, linear_lt, claims, ◌⊠◌}
+use Rattle.frac_laws.proofs.Quotients.{cross_of_lt, lt_of_cross, over_lt_of_cross}
 
 product_positive : (n m a b d : ℤ) → (pos 0 *ℤ a) <ℤ (n *ℤ pos 1) → (pos 0 *ℤ b) <ℤ (m *ℤ pos 1)
     → (pos 0 *ℤ d) <ℤ ((n *ℤ m) *ℤ pos 1)
@@ -25,7 +24,8 @@ product_positive (negsuc n) m a b d h k = absurd (omega (arith, ints))
 pub mul_positive : (x y : Fraction) → whole (pos 0) <ℚ x → whole (pos 0) <ℚ y → whole (pos 0) <ℚ x *ℚ y
 mul_positive = ind (λ x. hlevel Bool-set) (λ p. ind (λ y. hlevel Bool-set) (λ q h k.
     rw (sym (mk-product_of p q)) (lt_of_cross zero_pair (product_of p q)
-      (product_positive p.top q.top (bottom p) (bottom q) (bottom (product_of p q)) (cross_of_lt zero_pair p h) (cross_of_lt zero_pair q k)))))
+    (product_positive p.top q.top (bottom p) (bottom q) (bottom (product_of p q))
+    (cross_of_lt zero_pair p h) (cross_of_lt zero_pair q k)))))
 
 -- n / d for n above 0
 pub over_positive : (n d : ℕ) → 1 ≤ n → 1 ≤ d → whole (pos 0) <ℚ over (pos n) d

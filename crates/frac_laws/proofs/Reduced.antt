@@ -1,7 +1,8 @@
 -- Pairs in lowest terms, so that closed sums and products of a few dozen terms compute.
 use Rattle.std.specs.Prelude.{◌≡◌, ℕ, zero, suc, pred, pos, negsuc, ℤ, ◌+ℤ◌, ◌*ℤ◌, neg_ℤ, ◌/◌, ◌%◌}
-use Rattle.std.specs.Prelude.{Bool, true, false, nat_eq, List, [], ◌∷◌, map, unsigned_abs, slice_index_or, refl}
-use Rattle.std.proofs.Common.{ap, sym, ◌∙◌, arith}
+use Rattle.std.specs.Prelude.{Bool, true, false, nat_eq, List, [], ◌∷◌, unsigned_abs, slice_index_or}
+use Rattle.std.specs.Prelude.{refl}
+use Rattle.std.proofs.Common.{ap, ◌∙◌, arith}
 use Rattle.std.proofs.lemmas.Int.{ints}
 use mathlib.Core.Path.{ap₂}
 use mathlib.Core.Quot.{mk, sound}
@@ -104,14 +105,16 @@ pub value_of-dot : (ps qs : List Pair) → value_of (reduced_dot ps qs) ≡ dot 
 value_of-dot [] qs = refl
 value_of-dot (p ∷ ps) [] = refl
 value_of-dot (p ∷ ps) (q ∷ qs) =
-    value_of-sum (reduced_product p q) (reduced_dot ps qs) ∙ ap₂ ◌+ℚ◌ (value_of-product p q) (value_of-dot ps qs)
+    value_of-sum (reduced_product p q) (reduced_dot ps qs)
+    ∙ ap₂ ◌+ℚ◌ (value_of-product p q) (value_of-dot ps qs)
 
 abbrev pub reduced_add : List Pair → List Pair → List Pair
 reduced_add [] qs = qs
 reduced_add (p ∷ ps) [] = p ∷ ps
 reduced_add (p ∷ ps) (q ∷ qs) = reduced_sum p q ∷ reduced_add ps qs
 
-pub values_of-add : (ps qs : List Pair) → values_of (reduced_add ps qs) ≡ add_lists (values_of ps) (values_of qs)
+pub values_of-add : (ps qs : List Pair)
+    → values_of (reduced_add ps qs) ≡ add_lists (values_of ps) (values_of qs)
 values_of-add [] qs = refl
 values_of-add (p ∷ ps) [] = refl
 values_of-add (p ∷ ps) (q ∷ qs) = ap₂ (λ z zs. z ∷ zs) (value_of-sum p q) (values_of-add ps qs)
@@ -120,7 +123,8 @@ abbrev pub reduced_scale : Pair → List Pair → List Pair
 reduced_scale c [] = []
 reduced_scale c (p ∷ ps) = reduced_product c p ∷ reduced_scale c ps
 
-pub values_of-scale : (c : Pair) (ps : List Pair) → values_of (reduced_scale c ps) ≡ scale_list (value_of c) (values_of ps)
+pub values_of-scale : (c : Pair) (ps : List Pair)
+    → values_of (reduced_scale c ps) ≡ scale_list (value_of c) (values_of ps)
 values_of-scale c [] = refl
 values_of-scale c (p ∷ ps) = ap₂ (λ z zs. z ∷ zs) (value_of-product c p) (values_of-scale c ps)
 
@@ -131,7 +135,8 @@ reduced_list_product (p ∷ ps) qs = reduced_add (reduced_scale p qs) (zero_pair
 pub values_of-list_product : (ps qs : List Pair)
     → values_of (reduced_list_product ps qs) ≡ product_of_lists (values_of ps) (values_of qs)
 values_of-list_product [] qs = refl
-values_of-list_product (p ∷ ps) qs = values_of-add (reduced_scale p qs) (zero_pair ∷ reduced_list_product ps qs)
+values_of-list_product (p ∷ ps) qs =
+    values_of-add (reduced_scale p qs) (zero_pair ∷ reduced_list_product ps qs)
     ∙ ap₂ add_lists (values_of-scale p qs) (ap (λ zs. whole (pos 0) ∷ zs) (values_of-list_product ps qs))
 
 -- a matrix is the list of its rows

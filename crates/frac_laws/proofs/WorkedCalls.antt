@@ -1,5 +1,5 @@
 -- The ten calls of CALLING.md.
-use Rattle.std.specs.Prelude.{◌≡◌, ℕ, pos, [], ◌∷◌}
+use Rattle.std.specs.Prelude.{pos, [], ◌∷◌}
 use Rattle.std.proofs.Common.{refl, ap, sym, ◌∙◌}
 use mathlib.Core.Path.{ap₂, fun_ext}
 use Rattle.frac_laws.specs.Fraction.{over, whole, ◌+ℚ◌, ◌*ℚ◌}
@@ -51,4 +51,5 @@ sum_of_sizes_is_not_negative n a x v h = hlevel signs
 
 pub floor_in_units_is_within_one : FloorInUnitsIsWithinOne
 floor_in_units_is_within_one n d unit a h =
-    linear_lt (over n d ∷ whole (floor_of n (pos d)) ∷ unit ∷ []) (mul_lt h (lt_next n d a)) (hlevel claims) refl
+    linear_lt (over n d ∷ whole (floor_of n (pos d)) ∷ unit ∷ []) (mul_lt h (lt_next n d a))
+    (hlevel claims) refl

@@ -44,7 +44,8 @@ TailOfEighthsIsSmall = (bound : Fraction) (v : ℕ → Fraction) (s r : ℕ) →
 
 -- the total of a product of lists is the product of the totals
 abbrev pub TotalOfListProduct : Type 0
-TotalOfListProduct = (xs ys : List Fraction) → sum_of_list (product_of_lists xs ys) ≡ sum_of_list xs *ℚ sum_of_list ys
+TotalOfListProduct = (xs ys : List Fraction)
+    → sum_of_list (product_of_lists xs ys) ≡ sum_of_list xs *ℚ sum_of_list ys
 
 -- a product of lists has the convolution of the numbers
 abbrev pub NumbersOfListProduct : Type 0

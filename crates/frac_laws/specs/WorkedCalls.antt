@@ -27,7 +27,8 @@ GrowthKeepsOrder = (a b c d : Fraction) → a ≤ℚ b → whole (pos 0) ≤ℚ 
 
 -- w v = 1, 0 <= v and w x <= r give x <= v r
 abbrev pub BoundIsDivided : Type 0
-BoundIsDivided = (w v x r : Fraction) → w *ℚ v ≡ whole (pos 1) → whole (pos 0) ≤ℚ v → w *ℚ x ≤ℚ r → x ≤ℚ v *ℚ r
+BoundIsDivided = (w v x r : Fraction) → w *ℚ v ≡ whole (pos 1) → whole (pos 0) ≤ℚ v → w *ℚ x ≤ℚ r
+    → x ≤ℚ v *ℚ r
 
 -- a < b and c <= d give a + c < b + d + 1/3
 abbrev pub ThirdsMakeItStrict : Type 0
