@@ -27,3 +27,4 @@ pub mod OrderFacts
 pub mod SizeFacts
 pub mod SumFacts
 pub mod WorkedCalls
+pub mod LedgerFacts

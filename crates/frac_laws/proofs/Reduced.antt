@@ -7,6 +7,7 @@ use Rattle.std.proofs.lemmas.Int.{ints}
 use mathlib.Core.Path.{ap₂}
 use mathlib.Core.Quot.{mk, sound}
 use Rattle.frac_base.specs.Pair.{Pair, Same, bottom, sum_of, product_of, zero_pair}
+use Rattle.frac_base.proofs.WholeRing.{is_zero}
 use Rattle.frac_laws.specs.Fraction.{Fraction, whole, ◌+ℚ◌, ◌*ℚ◌}
 use Rattle.frac_laws.specs.Sums.{sum_of_list}
 use Rattle.frac_laws.specs.Lists.{add_lists, scale_list, dot, image, number_at}
@@ -25,10 +26,6 @@ shrink (negsuc n) g = neg_ℤ (pos (suc n / g))
 -- top and bottom divided by g
 abbrev pub divided_pair : Pair → ℕ → Pair
 divided_pair p g = record { top = shrink p.top g; below = pred (suc p.below / g) }
-
-abbrev pub is_zero : ℤ → Bool
-is_zero (pos n) = nat_eq n 0
-is_zero (negsuc n) = false
 
 -- q where it is the same number as p, otherwise p
 abbrev pub checked : Pair → Pair → Pair

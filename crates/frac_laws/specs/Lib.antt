@@ -3,6 +3,7 @@ pub mod Convolution
 pub mod FloorLaws
 pub mod Fraction
 pub mod Ledger
+pub mod LedgerLaws
 pub mod ListProducts
 pub mod Lists
 pub mod NormLaws

@@ -3,6 +3,7 @@
 
 mod closed_checks;
 mod floor_laws;
+mod ledger_laws;
 mod norm_laws;
 mod order_laws;
 mod quotient_laws;
@@ -16,6 +17,9 @@ pub use closed_checks::{long_quotients_are_ordered, product_of_ten_terms, third_
 pub use floor_laws::{
     ceiling_is_at_least, ceiling_is_least, ceiling_minus_one_is_below, floor_is_at_most,
     floor_is_greatest, floor_plus_one_is_above,
+};
+pub use ledger_laws::{
+    bound_has_scale, rounded_up_is_at_least, rounded_up_is_within_one, scale_is_unique,
 };
 pub use norm_laws::{
     norm_of_image, norm_of_matrix_multiple, norm_of_matrix_sum, norm_of_multiple, norm_of_sum,
