@@ -1,0 +1,5 @@
+pub mod Systems
+pub mod Pairs
+pub mod Tame
+pub mod Driven
+pub mod Recurrence
