@@ -3,3 +3,8 @@ pub mod Runs
 pub mod Recurrences
 pub mod Combinations
 pub mod Superposition
+pub mod Cancelling
+pub mod Decay
+pub mod Totals
+pub mod TameSums
+pub mod TameDecay

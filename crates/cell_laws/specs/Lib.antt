@@ -3,3 +3,5 @@ pub mod Pairs
 pub mod Tame
 pub mod Driven
 pub mod Recurrence
+pub mod ScalarLaws
+pub mod DecayLaws
