@@ -8,3 +8,6 @@ pub mod Decay
 pub mod Totals
 pub mod TameSums
 pub mod TameDecay
+pub mod FirstOrder
+pub mod Growth
+pub mod Response

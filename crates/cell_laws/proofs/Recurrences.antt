@@ -8,8 +8,9 @@ use Rattle.frac_laws.proofs.Vectors.{number_at-add_lists}
 use Rattle.cell_laws.specs.Systems.{sum_of_images, coefficients}
 use Rattle.cell_laws.specs.Pairs.{received, second_coefficient}
 use Rattle.cell_laws.specs.Recurrence.{CoefficientsRecur, SecondCoefficientsRecur, TaylorValueSums}
-use Rattle.cell_laws.specs.Recurrence.{SecondTaylorValueSums, NormsAreDriven}
-use Rattle.cell_laws.proofs.Runs.{recurrence, images-run, total-run, norms_driven}
+use Rattle.cell_laws.specs.Recurrence.{SecondTaylorValueSums, NormsAreDriven, TaylorValuesStayWithin}
+use Rattle.cell_laws.specs.Recurrence.{SecondTaylorValuesStayWithin}
+use Rattle.cell_laws.proofs.Runs.{recurrence, images-run, total-run, norms_driven, norm_of_total-run}
 
 pub coefficients_recur : CoefficientsRecur
 coefficients_recur s y k i = recurrence s.matrices (vector_at s.free) y k i
@@ -32,3 +33,9 @@ second_taylor_value_sums p w z n i = total-run p.second.matrices (received p w) 
 
 pub norms_are_driven : NormsAreDriven
 norms_are_driven norm s y n = norms_driven s.matrices (vector_at s.free) y norm n
+
+pub taylor_values_stay_within : TaylorValuesStayWithin
+taylor_values_stay_within norm s y n = norm_of_total-run s.matrices (vector_at s.free) y norm n
+
+pub second_taylor_values_stay_within : SecondTaylorValuesStayWithin
+second_taylor_values_stay_within norm p w z n = norm_of_total-run p.second.matrices (received p w) z norm n

@@ -1,6 +1,6 @@
 -- A run obeys its recurrence, number by number and in the norms.
 use Rattle.std.specs.Prelude.{◌≡◌, ℕ, suc, zero, pos, List, [], ◌∷◌, length, ◌≤◌, ◌-◌}
-use Rattle.std.proofs.Common.{refl, ap, ◌∙◌, arith}
+use Rattle.std.proofs.Common.{refl, ap, sym, ◌∙◌, arith}
 use Rattle.frac_laws.specs.Fraction.{Fraction, over, whole, ◌+ℚ◌, ◌*ℚ◌, ◌≤ℚ◌}
 use Rattle.frac_laws.specs.Sums.{sum_to}
 use Rattle.frac_laws.specs.Convolution.{convolution}
@@ -14,10 +14,12 @@ use Rattle.frac_laws.proofs.Sizes.{size_of_natural}
 use Rattle.frac_laws.proofs.Sums.{sum_to_ext}
 use Rattle.frac_laws.proofs.Quotients.{inverse}
 use Rattle.frac_laws.proofs.Vectors.{number_at-add_lists, number_at-scale_list}
-use Rattle.frac_laws.proofs.Norms.{norm-add_lists, norm-scale_list, norm_natural, matrix_norm_natural}
+use Rattle.frac_laws.proofs.Norms.{norm-same, norm-add_lists, norm-scale_list, norm_natural}
+use Rattle.frac_laws.proofs.Norms.{matrix_norm_natural}
 use Rattle.cell_laws.specs.Systems.{sum_of_images, run}
 use Rattle.cell_laws.specs.Tame.{matrix_norm_at}
 use Rattle.cell_laws.specs.Driven.{IsDriven}
+use Rattle.cell_laws.proofs.VectorSums.{sum_over, number_at-sum_over, norm-sum_over}
 use Rattle.cell_laws.proofs.VectorSums.{number_at-sum_of_vectors, number_at-sum_of_images}
 use Rattle.cell_laws.proofs.VectorSums.{norm-sum_of_images}
 
@@ -61,16 +63,20 @@ module _ (matrices : List Matrix) (f : ℕ → Vector) (y : Vector) where
       ∙ sum_to_ext (suc k) (λ m b. ap (λ v. matrix_norm_at norm others m *ℚ norm_of_vector norm v)
       (vector_at-run k m (omega arith)))))
 
+  -- a coefficient from the earlier ones
+  pub newest_from : (k i : ℕ) → number_at (newest (suc k)) i ≡ over (pos 1) (suc k)
+      *ℚ (sum_to (suc k) (λ m. number_at (image (matrix_at matrices m) (newest (k - m))) i) +ℚ number_at
+      (f k) i)
+  newest_from k i = number_at-scale_list (over (pos 1) (suc k))
+      (add_lists (sum_of_images matrices (run matrices f y k)) (f k)) i
+      ∙ ap (λ z. over (pos 1) (suc k) *ℚ z)
+      (number_at-add_lists (sum_of_images matrices (run matrices f y k)) (f k) i
+      ∙ ap (λ z. z +ℚ number_at (f k) i) (images-run matrices k i))
+
   pub recurrence : (k i : ℕ) → whole (pos (suc k)) *ℚ number_at (newest (suc k)) i
       ≡ sum_to (suc k) (λ m. number_at (image (matrix_at matrices m) (newest (k - m))) i) +ℚ number_at
       (f k) i
-  recurrence k i = ap (λ z. whole (pos (suc k)) *ℚ z) (number_at-scale_list (over (pos 1) (suc k)) right i)
-      ∙ times_part k (number_at right i)
-      ∙ number_at-add_lists (sum_of_images matrices (run matrices f y k)) (f k) i
-      ∙ ap (λ z. z +ℚ number_at (f k) i) (images-run matrices k i)
-    where
-      right : Vector
-      right = add_lists (sum_of_images matrices (run matrices f y k)) (f k)
+  recurrence k i = ap (λ z. whole (pos (suc k)) *ℚ z) (newest_from k i) ∙ times_part k _
 
   pub total-run : (n i : ℕ) → number_at (sum_of_vectors (run matrices f y n)) i ≡ sum_to (suc n)
       (λ k. number_at (newest k) i)
@@ -104,3 +110,11 @@ module _ (matrices : List Matrix) (f : ℕ → Vector) (y : Vector) where
       step k =
           rw (scaled k) (le_trans (norm-add_lists norm (sum_of_images matrices (run matrices f y k)) (f k))
           (add_mono (norm_of_images-run norm matrices k) (le_refl _)))
+
+  -- the total is within the sum of the norms
+  pub norm_of_total-run : (norm : Norm) (n : ℕ) → norm_of_vector norm (sum_of_vectors (run matrices f y n))
+      ≤ℚ sum_to (suc n) (λ k. norm_of_vector norm (newest k))
+  norm_of_total-run norm n = le_trans
+      (le_of_equal (norm-same norm (sum_of_vectors (run matrices f y n)) (sum_over (suc n) newest)
+      (λ i. total-run n i ∙ sym (number_at-sum_over (suc n) newest i))))
+      (norm-sum_over norm (suc n) newest)

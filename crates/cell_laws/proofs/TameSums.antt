@@ -19,7 +19,7 @@ matrix_norm_of_none : (norm : Norm) → norm_of_matrix norm [] ≡ whole (pos 0)
 matrix_norm_of_none Sup = refl
 matrix_norm_of_none Sum = refl
 
-norm_of_none : (norm : Norm) → norm_of_vector norm [] ≡ whole (pos 0)
+pub norm_of_none : (norm : Norm) → norm_of_vector norm [] ≡ whole (pos 0)
 norm_of_none Sup = refl
 norm_of_none Sum = refl
 

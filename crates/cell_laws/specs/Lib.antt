@@ -5,3 +5,4 @@ pub mod Driven
 pub mod Recurrence
 pub mod ScalarLaws
 pub mod DecayLaws
+pub mod GrowthLaws

@@ -1,6 +1,6 @@
 -- What the coefficients of a system are, number by number, and how two runs of one system differ.
 use Rattle.std.specs.Prelude.{◌≡◌, ℕ, suc, pos, ◌-◌}
-use Rattle.frac_laws.specs.Fraction.{whole, ◌+ℚ◌, ◌*ℚ◌, ◌-ℚ◌}
+use Rattle.frac_laws.specs.Fraction.{whole, ◌+ℚ◌, ◌*ℚ◌, ◌-ℚ◌, ◌≤ℚ◌}
 use Rattle.frac_laws.specs.Sums.{sum_to}
 use Rattle.frac_laws.specs.Lists.{Vector, number_at, vector_at, matrix_at, subtract_lists, image}
 use Rattle.frac_laws.specs.Norms.{Norm, norm_of_vector}
@@ -58,3 +58,14 @@ abbrev pub NormsAreDriven : Type 0
 NormsAreDriven = (norm : Norm) (s : System) (y : Vector) (n : ℕ) →
     IsDriven n (matrix_norm_at norm s.matrices) (vector_norm_at norm s.free)
     (λ k. norm_of_vector norm (coefficient s y k))
+
+-- a Taylor value is within the sum of the norms of its coefficients
+abbrev pub TaylorValuesStayWithin : Type 0
+TaylorValuesStayWithin = (norm : Norm) (s : System) (y : Vector) (n : ℕ) →
+    norm_of_vector norm (taylor_value s y n) ≤ℚ sum_to (suc n)
+    (λ k. norm_of_vector norm (coefficient s y k))
+
+abbrev pub SecondTaylorValuesStayWithin : Type 0
+SecondTaylorValuesStayWithin = (norm : Norm) (p : CoupledPair) (w z : Vector) (n : ℕ) →
+    norm_of_vector norm (second_taylor_value p w z n)
+    ≤ℚ sum_to (suc n) (λ k. norm_of_vector norm (second_coefficient p w z k))

@@ -2,6 +2,7 @@
 #![tactic(auto)]
 
 mod decay_laws;
+mod growth_laws;
 mod recurrence_laws;
 mod scalar_laws;
 

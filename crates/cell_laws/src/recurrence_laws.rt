@@ -2,6 +2,7 @@
 
 ghost use Rattle.cell_laws.specs.Recurrence.{CoefficientsRecur, SecondCoefficientsRecur};
 ghost use Rattle.cell_laws.specs.Recurrence.{TaylorValueSums, SecondTaylorValueSums, NormsAreDriven};
+ghost use Rattle.cell_laws.specs.Recurrence.{TaylorValuesStayWithin, SecondTaylorValuesStayWithin};
 ghost use Rattle.cell_laws.specs.Recurrence.{CoefficientsSuperpose, TaylorValuesSuperpose};
 ghost use Rattle.cell_laws.specs.Recurrence.{SecondTaylorValuesSuperpose};
 
@@ -27,4 +28,10 @@ pub fn runs_superpose()
 /// The norms of the coefficients are driven by the norms of the matrices and of the free vectors.
 pub fn norms_are_driven()
     ensures { NormsAreDriven }
+{}
+
+/// A Taylor value is within the sum of the norms of its coefficients.
+pub fn taylor_values_stay_within()
+    ensures single { TaylorValuesStayWithin }
+    ensures second { SecondTaylorValuesStayWithin }
 {}
