@@ -26,8 +26,13 @@ nothing c = record { numbers = λ i. ring (c ∷ []) (hlevel terms) refl }
 pub sum_combines : (c : Fraction) {x y z u v w : Vector} → Combines c x y z → Combines c u v w
     → Combines c (add_lists x u) (add_lists y v) (add_lists z w)
 sum_combines c {x} {y} {z} {u} {v} {w} h k = record {
-  numbers = λ i. rw
-      (number_at-add_lists x u i, number_at-add_lists y v i, number_at-add_lists z w i, h.numbers i, k.numbers i)
+  numbers = λ i. rw (
+    number_at-add_lists x u i,
+    number_at-add_lists y v i,
+    number_at-add_lists z w i,
+    h.numbers i,
+    k.numbers i,
+  )
       (ring (c ∷ number_at x i ∷ number_at y i ∷ number_at u i ∷ number_at v i ∷ []) (hlevel terms) refl);
 }
 

@@ -139,10 +139,11 @@ module _ (matrices : List Matrix) (e : Vector) where
       turned_norm = norm-scale_list norm (opposite (over (pos 1) (suc m))) part
           ∙ ap (λ t. t *ℚ norm_of_vector norm part) (size-opposite (over (pos 1) (suc m)) ∙ part_size m)
 
-      below : over (pos 1) (suc m) *ℚ norm_of_vector norm part ≤ℚ over (pos 1)
-          (suc m) *ℚ matrix_norm_at norm matrices m *ℚ norm_of_vector norm e
+      below : over (pos 1) (suc m) *ℚ norm_of_vector norm part
+          ≤ℚ over (pos 1) (suc m) *ℚ matrix_norm_at norm matrices m *ℚ norm_of_vector norm e
       below = linear
-          (over (pos 1) (suc m) ∷ norm_of_vector norm part ∷ matrix_norm_at norm matrices m ∷ norm_of_vector norm e ∷ [])
+          (over (pos 1) (suc m) ∷ norm_of_vector norm part
+          ∷ matrix_norm_at norm matrices m ∷ norm_of_vector norm e ∷ [])
           (natural 1 (suc m) ⊠ norm-image norm (matrix_at matrices m) e) (hlevel claims) refl
 
   more_factors : (norm : Norm) (d n r : ℕ) → norm_of_vector norm (image (one_factor_map d matrices n) e)

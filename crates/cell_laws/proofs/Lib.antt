@@ -11,3 +11,4 @@ pub mod TameDecay
 pub mod FirstOrder
 pub mod Growth
 pub mod Response
+pub mod Samples

@@ -6,3 +6,4 @@ pub mod Recurrence
 pub mod ScalarLaws
 pub mod DecayLaws
 pub mod GrowthLaws
+pub mod Samples
