@@ -6,5 +6,6 @@ pub mod Lists
 pub mod NormLaws
 pub mod Norms
 pub mod QuotientLaws
+pub mod RatioValue
 pub mod Rounding
 pub mod Sums

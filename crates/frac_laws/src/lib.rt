@@ -4,6 +4,7 @@
 mod floor_laws;
 mod norm_laws;
 mod quotient_laws;
+mod ratio;
 
 pub use floor_laws::{
     ceiling_is_at_least, ceiling_is_least, ceiling_minus_one_is_below, floor_is_at_most,
@@ -19,3 +20,4 @@ pub use quotient_laws::{
     quotients_have_opposites, quotients_multiply, quotients_times_divisor, whole_numbers_add,
     whole_numbers_compare, whole_numbers_multiply,
 };
+pub use ratio::Ratio;
