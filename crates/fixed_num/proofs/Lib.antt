@@ -1,0 +1,3 @@
+pub mod Division
+pub mod Shifts
+pub mod Terms

@@ -1,0 +1,65 @@
+-- One more term of a sum of products.
+use Rattle.std.proofs.Common.{◌≡◌, ℕ, ◌+◌, ◌^◌, ◌<◌, ◌≤◌, ℤ, pos, ◌+ℤ◌, ◌*ℤ◌, FitsSigned}
+use Rattle.std.proofs.Common.{List, length, drop, get_or, arith, add-one, refl, sym, ◌∙◌}
+use Rattle.std.specs.Prelude.{unsigned_abs}
+use Rattle.std.specs.Int.{w128}
+use Rattle.std.proofs.Math.Seq.{drop-cons}
+use Rattle.std.proofs.Math.IntN.{+ℤ_assoc, +ℤ_idr}
+use Rattle.std.proofs.lemmas.Int.{ints, unsigned_abs-mul, fits_signed_from_abs}
+use Rattle.std.proofs.lemmas.List.{drop_all}
+use Rattle.fixed_num.specs.Products.{sum_of_products, sum_of_sizes}
+
+-- the sum of the first i products: with the products that are left it is the whole sum
+pub record IsPartialSum (xs factors : List ℤ) (i : ℕ) (sum : ℤ) : Type 0 where
+  pub rest : sum +ℤ sum_of_products (drop i xs) (drop i factors) ≡ sum_of_products xs factors
+  pub size : unsigned_abs sum + sum_of_sizes (drop i xs) (drop i factors) ≤ sum_of_sizes xs factors
+
+-- the product at place i
+abbrev pub term : List ℤ → List ℤ → ℕ → ℤ
+term xs factors i = get_or xs i (pos 0) *ℤ get_or factors i (pos 0)
+
+sum_of_products-drop : (xs factors : List ℤ) (i : ℕ) → i < length xs → i < length factors
+    → sum_of_products (drop i xs) (drop i factors)
+    ≡ term xs factors i +ℤ sum_of_products (drop (i + 1) xs) (drop (i + 1) factors)
+sum_of_products-drop xs factors i in_xs in_factors =
+    rw (add-one, drop-cons xs i (pos 0) in_xs, drop-cons factors i (pos 0) in_factors) refl
+
+sum_of_sizes-drop : (xs factors : List ℤ) (i : ℕ) → i < length xs → i < length factors
+    → sum_of_sizes (drop i xs) (drop i factors)
+    ≡ unsigned_abs (term xs factors i) + sum_of_sizes (drop (i + 1) xs) (drop (i + 1) factors)
+sum_of_sizes-drop xs factors i in_xs in_factors =
+    let size = unsigned_abs-mul (get_or xs i (pos 0)) (get_or factors i (pos 0)) in
+    rw (size, add-one, drop-cons xs i (pos 0) in_xs, drop-cons factors i (pos 0) in_factors) refl
+
+-- the size of a sum is at most the sum of the sizes
+size_of_sum : (s t : ℤ) → unsigned_abs (s +ℤ t) ≤ unsigned_abs s + unsigned_abs t
+size_of_sum s t = grind (arith, ints)
+
+fits_by_size : (z : ℤ) (m : ℕ) → unsigned_abs z ≤ m → m < 2 ^ 126 → FitsSigned w128 z
+fits_by_size z m within small = fits_signed_from_abs w128 z (omega arith)
+
+pub partial_sum-more : (xs factors : List ℤ) (i : ℕ) (sum : ℤ) → i < length xs → length factors ≡ length xs
+    → IsPartialSum xs factors i sum → IsPartialSum xs factors (i + 1) (sum +ℤ term xs factors i)
+partial_sum-more xs factors i sum inside lengths so_far =
+    let left = sum_of_sizes-drop xs factors i inside (omega arith) in
+    record {
+      rest = rw (+ℤ_assoc, ← sum_of_products-drop xs factors i inside (omega arith)) so_far.rest;
+      size = omega (arith, so_far.size, size_of_sum sum (term xs factors i));
+    }
+
+pub term_fits : (xs factors : List ℤ) (i : ℕ) (sum : ℤ) → i < length xs → length factors ≡ length xs
+    → IsPartialSum xs factors i sum → sum_of_sizes xs factors < 2 ^ 126 → FitsSigned w128 (term xs factors i)
+term_fits xs factors i sum inside lengths so_far fits =
+    let within : unsigned_abs (term xs factors i) ≤ sum_of_sizes xs factors =
+    omega (arith, so_far.size, sum_of_sizes-drop xs factors i inside (omega arith)) in
+    fits_by_size (term xs factors i) (sum_of_sizes xs factors) within fits
+
+pub partial_sum_fits : (xs factors : List ℤ) (i : ℕ) (sum : ℤ) → IsPartialSum xs factors i sum
+    → sum_of_sizes xs factors < 2 ^ 126 → FitsSigned w128 sum
+partial_sum_fits xs factors i sum so_far fits =
+    fits_by_size sum (sum_of_sizes xs factors) (omega (arith, so_far.size)) fits
+
+-- at the end the partial sum is the sum
+pub partial_sum-all : (xs factors : List ℤ) (i : ℕ) (sum : ℤ) → length xs ≤ i → IsPartialSum xs factors i sum
+    → sum ≡ sum_of_products xs factors
+partial_sum-all xs factors i sum past so_far = sym (+ℤ_idr sum) ∙ (rw (drop_all i xs past) at so_far.rest)

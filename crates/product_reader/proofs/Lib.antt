@@ -1,0 +1,5 @@
+pub mod FlatBounds
+pub mod FlatFiles
+pub mod FlatTrees
+pub mod FlatValues
+pub mod MembersLemmas
