@@ -12,3 +12,4 @@ pub mod FirstOrder
 pub mod Growth
 pub mod Response
 pub mod Samples
+pub mod Dimensions

@@ -18,3 +18,4 @@ pub mod Sizes
 pub mod SmallNumbers
 pub mod Sums
 pub mod Vectors
+pub mod Lengths
