@@ -13,3 +13,5 @@ pub mod Growth
 pub mod Response
 pub mod Samples
 pub mod Dimensions
+pub mod Errors
+pub mod Solutions

@@ -1,4 +1,5 @@
--- How much an error of the start grows over a cell: the homogeneous Taylor values of tame systems and pairs.
+-- How much an error of the start grows over a cell: the homogeneous Taylor values of tame systems and
+-- pairs.
 use Rattle.std.specs.Prelude.{ℕ, suc, pos, List, [], length, ◌≤◌, ◌+◌, ◌-◌}
 use Rattle.frac_laws.specs.Fraction.{Fraction, over, whole, ◌+ℚ◌, ◌*ℚ◌, ◌≤ℚ◌}
 use Rattle.frac_laws.specs.Sums.{sum_to}

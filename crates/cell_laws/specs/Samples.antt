@@ -1,4 +1,5 @@
--- Small systems that show that the premises of the laws can be met, with values that were computed by hand or
+-- Small systems that show that the premises of the laws can be met, with values that were computed by hand
+-- or
 -- with another program's exact fractions.
 use Rattle.std.specs.Prelude.{◌≡◌, ℕ, pos, neg_ℤ, [], ◌∷◌}
 use Rattle.frac_laws.specs.Fraction.{Fraction, over, whole}

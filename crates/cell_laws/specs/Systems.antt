@@ -1,4 +1,5 @@
--- The system of one cell: linear equations y' = A y + g with A and g given by powers of the cell's variable,
+-- The system of one cell: linear equations y' = A y + g with A and g given by powers of the cell's
+-- variable,
 -- and the coefficients and sums of the Taylor series that solve them.
 use Rattle.std.specs.Prelude.{ℕ, zero, suc, pos, List, [], ◌∷◌, length, ◌≤◌}
 use Rattle.frac_laws.specs.Fraction.{over}

@@ -3,8 +3,8 @@
 ghost use Rattle.cell_laws.specs.GrowthLaws.{CellsGrow, CellsGrowLittle};
 ghost use Rattle.cell_laws.specs.GrowthLaws.{SecondHalvesRespond, PairsGrow};
 
-/// A homogeneous Taylor value of a tame system is at most `1 + kappa` times its start, for every degree, where
-/// the powers from the degree on have a term of their own.
+/// A homogeneous Taylor value of a tame system is at most `1 + kappa` times its start, for every degree,
+/// where the powers from the degree on have a term of their own.
 pub fn cells_grow()
     ensures { CellsGrow }
 {}
