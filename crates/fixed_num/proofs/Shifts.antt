@@ -1,11 +1,13 @@
--- The shift of v * 15625 by 58 - g is the floor of v * 2^g * 10^6 / 2^64.
-use Rattle.std.proofs.Common.{◌≡◌, ℕ, ◌+◌, ◌-◌, ◌*◌, ◌/◌, ◌^◌, ◌<◌, ◌≤◌, ℤ, pos, negsuc, ◌*ℤ◌, ap, sym, refl, ◌∙◌, arith}
+-- Shifts to the right as floors.
+use Rattle.std.proofs.Common.{◌≡◌, ℕ, ◌+◌, ◌-◌, ◌*◌, ◌/◌, ◌^◌, ◌<◌, ◌≤◌, ℤ, pos, negsuc, ◌*ℤ◌}
+use Rattle.std.proofs.Common.{ap, sym, refl, ◌∙◌, arith}
 use Rattle.std.specs.Prelude.{unsigned_abs}
 use Rattle.std.specs.Int.{int_shr}
 use Rattle.std.proofs.lemmas.Nat.{pow-add, pow_pos, shr-shr, shr_le, shr_below}
 use Rattle.std.proofs.Math.Nat.{div-div-eq-div-mul}
 use Rattle.frac_laws.specs.Rounding.{floor_of}
-use Rattle.frac_laws.proofs.RoundingLaws.{product-product, floor-common_factor}
+use Rattle.frac_laws.proofs.WholeProducts.{product-product}
+use Rattle.frac_laws.proofs.RoundingLaws.{floor-common_factor}
 
 pub shift-floor : (z : ℤ) (k : ℕ) → int_shr z k ≡ floor_of z (pos (2 ^ k))
 shift-floor (pos n) k = refl
@@ -19,11 +21,15 @@ whole_shift g scale =
     let whole : (58 - g) + (g + 6) ≡ 64 = omega arith in
     sym (pow-add 2 (58 - g) (g + 6)) ∙ ap (λ k. 2 ^ k) whole
 
-pub shifted_scale : (v : ℤ) (g : ℕ) → g ≤ 56 → int_shr (v *ℤ pos 15625) (58 - g) ≡ floor_of (v *ℤ pos (2 ^ g * 10 ^ 6)) (pos (2 ^ 64))
+-- the shift of v * 15625 by 58 - g is the floor of v * 2^g * 10^6 / 2^64
+pub shifted_scale : (v : ℤ) (g : ℕ) → g ≤ 56
+    → int_shr (v *ℤ pos 15625) (58 - g) ≡ floor_of (v *ℤ pos (2 ^ g * 10 ^ 6)) (pos (2 ^ 64))
 shifted_scale v g scale =
+    let numerator : (v *ℤ pos 15625) *ℤ pos (2 ^ (g + 6)) ≡ v *ℤ pos (2 ^ g * 10 ^ 6) =
+    product-product v 15625 (2 ^ (g + 6)) ∙ ap (λ m. v *ℤ pos m) (factor g) in
     shift-floor (v *ℤ pos 15625) (58 - g)
     ∙ sym (floor-common_factor (v *ℤ pos 15625) (2 ^ (58 - g)) (2 ^ (g + 6)) (pow_pos (g + 6)))
-    ∙ ap (λ z. floor_of z (pos (2 ^ (58 - g) * 2 ^ (g + 6)))) (product-product v 15625 (2 ^ (g + 6)) ∙ ap (λ m. v *ℤ pos m) (factor g))
+    ∙ ap (λ z. floor_of z (pos (2 ^ (58 - g) * 2 ^ (g + 6)))) numerator
     ∙ ap (λ m. floor_of (v *ℤ pos (2 ^ g * 10 ^ 6)) (pos m)) (whole_shift g scale)
 
 -- a shift by two places or more leaves at most a quarter

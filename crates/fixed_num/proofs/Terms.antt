@@ -1,5 +1,5 @@
 -- One more term of a sum of products.
-use Rattle.std.proofs.Common.{◌≡◌, ℕ, ◌+◌, ◌*◌, ◌^◌, ◌<◌, ◌≤◌, ℤ, pos, ◌+ℤ◌, ◌*ℤ◌, FitsSigned}
+use Rattle.std.proofs.Common.{◌≡◌, ℕ, ◌+◌, ◌^◌, ◌<◌, ◌≤◌, ℤ, pos, ◌+ℤ◌, ◌*ℤ◌, FitsSigned}
 use Rattle.std.proofs.Common.{List, length, drop, get_or, arith, add-one, refl, sym, ◌∙◌}
 use Rattle.std.specs.Prelude.{unsigned_abs}
 use Rattle.std.specs.Int.{w128}
@@ -9,7 +9,7 @@ use Rattle.std.proofs.lemmas.Int.{ints, unsigned_abs-mul, fits_signed_from_abs}
 use Rattle.std.proofs.lemmas.List.{drop_all}
 use Rattle.fixed_num.specs.Products.{sum_of_products, sum_of_sizes}
 
--- the sum of the first i products, as far as the loop has come: with the products that are left it is the whole sum
+-- the sum of the first i products: with the products that are left it is the whole sum
 pub record IsPartialSum (xs factors : List ℤ) (i : ℕ) (sum : ℤ) : Type 0 where
   pub rest : sum +ℤ sum_of_products (drop i xs) (drop i factors) ≡ sum_of_products xs factors
   pub size : unsigned_abs sum + sum_of_sizes (drop i xs) (drop i factors) ≤ sum_of_sizes xs factors
@@ -26,9 +26,10 @@ sum_of_products-drop xs factors i in_xs in_factors =
 
 sum_of_sizes-drop : (xs factors : List ℤ) (i : ℕ) → i < length xs → i < length factors
     → sum_of_sizes (drop i xs) (drop i factors)
-    ≡ unsigned_abs (get_or xs i (pos 0)) * unsigned_abs (get_or factors i (pos 0)) + sum_of_sizes (drop (i + 1) xs) (drop (i + 1) factors)
+    ≡ unsigned_abs (term xs factors i) + sum_of_sizes (drop (i + 1) xs) (drop (i + 1) factors)
 sum_of_sizes-drop xs factors i in_xs in_factors =
-    rw (add-one, drop-cons xs i (pos 0) in_xs, drop-cons factors i (pos 0) in_factors) refl
+    let size = unsigned_abs-mul (get_or xs i (pos 0)) (get_or factors i (pos 0)) in
+    rw (size, add-one, drop-cons xs i (pos 0) in_xs, drop-cons factors i (pos 0) in_factors) refl
 
 -- the size of a sum is at most the sum of the sizes
 size_of_sum : (s t : ℤ) → unsigned_abs (s +ℤ t) ≤ unsigned_abs s + unsigned_abs t
@@ -39,15 +40,19 @@ fits_by_size z m within small = fits_signed_from_abs w128 z (omega arith)
 
 pub partial_sum-more : (xs factors : List ℤ) (i : ℕ) (sum : ℤ) → i < length xs → length factors ≡ length xs
     → IsPartialSum xs factors i sum → IsPartialSum xs factors (i + 1) (sum +ℤ term xs factors i)
-partial_sum-more xs factors i sum inside lengths so_far = record {
-  rest = rw (+ℤ_assoc, ← sum_of_products-drop xs factors i inside (omega arith)) so_far.rest;
-  size = omega (arith, so_far.size, size_of_sum sum (term xs factors i), unsigned_abs-mul (get_or xs i (pos 0)) (get_or factors i (pos 0)), sum_of_sizes-drop xs factors i inside (omega arith));
-}
+partial_sum-more xs factors i sum inside lengths so_far =
+    let left = sum_of_sizes-drop xs factors i inside (omega arith) in
+    record {
+      rest = rw (+ℤ_assoc, ← sum_of_products-drop xs factors i inside (omega arith)) so_far.rest;
+      size = omega (arith, so_far.size, size_of_sum sum (term xs factors i));
+    }
 
 pub term_fits : (xs factors : List ℤ) (i : ℕ) (sum : ℤ) → i < length xs → length factors ≡ length xs
     → IsPartialSum xs factors i sum → sum_of_sizes xs factors < 2 ^ 126 → FitsSigned w128 (term xs factors i)
 term_fits xs factors i sum inside lengths so_far fits =
-    fits_by_size (term xs factors i) (sum_of_sizes xs factors) (omega (arith, so_far.size, unsigned_abs-mul (get_or xs i (pos 0)) (get_or factors i (pos 0)), sum_of_sizes-drop xs factors i inside (omega arith))) fits
+    let within : unsigned_abs (term xs factors i) ≤ sum_of_sizes xs factors =
+    omega (arith, so_far.size, sum_of_sizes-drop xs factors i inside (omega arith)) in
+    fits_by_size (term xs factors i) (sum_of_sizes xs factors) within fits
 
 pub partial_sum_fits : (xs factors : List ℤ) (i : ℕ) (sum : ℤ) → IsPartialSum xs factors i sum
     → sum_of_sizes xs factors < 2 ^ 126 → FitsSigned w128 sum

@@ -19,8 +19,8 @@ fn exact_sum(a: &[i128], v: &[i128]) -> i128
     sum
 }
 
-/// The floor of the exact sum of the products `a[i] * v[i]`, divided by `2^64 * div`: with both in units of 2^-64,
-/// a `div`-th of the sum, in units of 2^-64, with one rounding.
+/// The floor of the exact sum of the products `a[i] * v[i]`, divided by `2^64 * div`: where both lists are in
+/// units of 2^-64, one part in `div` of their dot product in units of 2^-64, rounded once, downwards.
 pub fn dot(a: &[i128], v: &[i128], div: u32) -> i128
     requires lengths { length v.now ≡ length a.now }
     requires positive { 1 ≤ div }

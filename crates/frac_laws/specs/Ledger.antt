@@ -1,4 +1,5 @@
--- The whole-number formulas of the ledgers, this product's own. They are total: no condition on a number stands here.
+-- The whole-number formulas of the ledgers, this product's own. They are total: no condition on a number
+-- stands here.
 use Rattle.std.specs.Prelude.{ℕ, zero, suc, ◌+◌, ◌*◌, ◌^◌, ◌≤◌, nat_le, if◌then◌else◌}
 use Rattle.std.specs.Int.{div_ceil}
 

@@ -11,7 +11,8 @@ scale_limit bound g small enough =
     omega arith
 
 pub double_at_scale : (w g : ℕ) → w ≤ 2 ^ 45 → g ≤ 56 → 2 * w * 2 ^ g ≤ 2 ^ 102
-double_at_scale w g ledger scale = mul-le (2 * w) (2 ^ g) (2 ^ 46) (2 ^ 56) (omega arith) (pow-le-pow_right (lit< tt) scale)
+double_at_scale w g ledger scale =
+    mul-le (2 * w) (2 ^ g) (2 ^ 46) (2 ^ 56) (omega arith) (pow-le-pow_right (lit< tt) scale)
 
 pub fourth_power : (g m : ℕ) → g ≤ m → 4 ^ g ≤ 4 ^ m
 fourth_power g m order = pow-le-pow_right (lit< tt) order
@@ -27,4 +28,6 @@ pub whole_quotient : (units g : ℕ) → 32 ≤ g → units * 4 ^ (g - 32) ≡ d
 whole_quotient units g order =
     let places : (g - 32) + 32 ≡ g = omega arith in
     let power : 4 ^ (g - 32) * 2 ^ 64 ≡ 4 ^ g = sym (pow-add 4 (g - 32) 32) ∙ ap (λ k. 4 ^ k) places in
-    sym (div_ceil-multiple (units * 4 ^ (g - 32)) (2 ^ 64) (lit< tt)) ∙ ap (λ n. div_ceil n (2 ^ 64)) (mul_assoc units (4 ^ (g - 32)) (2 ^ 64) ∙ ap (λ n. units * n) power)
+    let product : units * 4 ^ (g - 32) * 2 ^ 64 ≡ units * 4 ^ g =
+    mul_assoc units (4 ^ (g - 32)) (2 ^ 64) ∙ ap (λ n. units * n) power in
+    sym (div_ceil-multiple (units * 4 ^ (g - 32)) (2 ^ 64) (lit< tt)) ∙ ap (λ n. div_ceil n (2 ^ 64)) product

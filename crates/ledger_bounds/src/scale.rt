@@ -6,8 +6,8 @@ ghost use Rattle.frac_laws.specs.Ledger.{IsScale, scale_of_bound};
 // A scale is one of 0 to 56.
 const SCALES: u32 = 57;
 
-/// The least `g` with `1024 * 2^g` at or above a bound in 1/1024 minor units: the scale stands for 2^g minor units.
-/// There is none for a bound above 2^66.
+/// The least `g` with `1024 * 2^g` at or above a bound in 1/1024 minor units: amounts are counted in parts of
+/// 2^g minor units. There is none for a bound above 2^66.
 pub fn scale_of(bound1024: u128) -> Option<u32>
     ensures none { IsNone result ↔ (2 ^ 66 < bound1024) }
     ensures least { IfSome result (IsScale bound1024) }

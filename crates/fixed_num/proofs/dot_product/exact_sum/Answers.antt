@@ -12,7 +12,9 @@ loop-i-preserved c =
     let sum = to_z w128 c.loop-i.sum-bits in
     let number_fits : FitsSigned w128 (get_or c.args.a.now c.loop-i.i (pos 0)) = search rules in
     let factor_fits : FitsSigned w128 (get_or c.args.v.now c.loop-i.i (pos 0)) = search rules in
-    let product_fits = term_fits a v i sum c.loop-i-test.true c.requires.lengths c.loop-i.invariant c.requires.fits in
-    let more = partial_sum-more a v i sum c.loop-i-test.true c.requires.lengths c.loop-i.invariant in
+    let inside = c.loop-i-test.true in
+    let lengths = c.requires.lengths in
+    let product_fits = term_fits a v i sum inside lengths c.loop-i.invariant c.requires.fits in
+    let more = partial_sum-more a v i sum inside lengths c.loop-i.invariant in
     let sum_fits = partial_sum_fits a v _ _ more c.requires.fits in
     simp to_z-of_z more

@@ -7,5 +7,8 @@ use Rattle.fixed_num.proofs.fraction.next_bits.Goals as goal
 pub returns-clause-size : goal.returns-clause-size
 returns-clause-size c =
     let den_fits : FitsSigned w128 c.args.den = search rules in
-    let whole : c.args.num *ℤ pos (2 ^ 32) ≡ (c.divide.result.quotient *ℤ c.args.den) +ℤ c.divide.result.left = search rules in
-    quotient_size c.args.num c.divide.result.quotient c.divide.result.left c.args.den (2 ^ 32) c.requires.positive c.requires.within whole c.divide.ensures.low (simp to_z-of_z at c.divide.ensures.high)
+    let divided = c.divide.result in
+    let whole : c.args.num *ℤ pos (2 ^ 32) ≡ (divided.quotient *ℤ c.args.den) +ℤ divided.left = search rules in
+    let below = simp to_z-of_z at c.divide.ensures.high in
+    quotient_size c.args.num divided.quotient divided.left c.args.den (2 ^ 32)
+    c.requires.positive c.requires.within whole c.divide.ensures.low below

@@ -15,7 +15,8 @@ pub returns-clause-value : goal.returns-clause-value
 returns-clause-value c =
     let number_fits : FitsSigned w128 c.args.v = search rules in
     let product_fits = product_fits c.args.v c.requires.number in
-    let size = shifted_size (c.args.v *ℤ pos 15625) (58 - c.args.g) (2 ^ 112) (omega arith) (product_size c.args.v c.requires.number) in
+    let product = product_size c.args.v c.requires.number in
+    let size = shifted_size (c.args.v *ℤ pos 15625) (58 - c.args.g) (2 ^ 112) (omega arith) product in
     let fits = fits_signed_from_abs w128 (int_shr (c.args.v *ℤ pos 15625) (58 - c.args.g)) (omega arith) in
     simp to_z-of_z (shifted_scale c.args.v c.args.g c.requires.scale)
 
@@ -23,6 +24,7 @@ pub returns-clause-size : goal.returns-clause-size
 returns-clause-size c =
     let number_fits : FitsSigned w128 c.args.v = search rules in
     let product_fits = product_fits c.args.v c.requires.number in
-    let size = shifted_size (c.args.v *ℤ pos 15625) (58 - c.args.g) (2 ^ 112) (omega arith) (product_size c.args.v c.requires.number) in
+    let product = product_size c.args.v c.requires.number in
+    let size = shifted_size (c.args.v *ℤ pos 15625) (58 - c.args.g) (2 ^ 112) (omega arith) product in
     let fits = fits_signed_from_abs w128 (int_shr (c.args.v *ℤ pos 15625) (58 - c.args.g)) (omega arith) in
     simp to_z-of_z size

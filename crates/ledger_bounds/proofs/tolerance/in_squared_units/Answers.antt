@@ -6,13 +6,17 @@ pub pow-requires : goal.pow-requires
 pow-requires c = omega (arith, fourth_power c.args.g 31 (omega arith))
 
 pub overflow_mul-units : goal.overflow_mul-units
-overflow_mul-units c = rw c.pow.ensures (omega (arith, squared_product c.args.units c.args.g 31 c.requires.number (omega arith)))
+overflow_mul-units c =
+    let product = squared_product c.args.units c.args.g 31 c.requires.number (omega arith) in
+    rw c.pow.ensures (omega arith)
 
 pub pow-requires-else-g-lt32 : goal.pow-requires-else-g-lt32
 pow-requires-else-g-lt32 c = omega (arith, fourth_power (c.args.g - 32) 24 (omega arith))
 
 pub overflow_mul-result : goal.overflow_mul-result
-overflow_mul-result c = rw c.pow-else-g-lt32.ensures (omega (arith, squared_product c.args.units (c.args.g - 32) 24 c.requires.number (omega arith)))
+overflow_mul-result c =
+    let product = squared_product c.args.units (c.args.g - 32) 24 c.requires.number (omega arith) in
+    rw c.pow-else-g-lt32.ensures (omega arith)
 
 pub returns-then-g-lt32-clause-size : goal.returns-then-g-lt32-clause-size
 returns-then-g-lt32-clause-size c =
@@ -21,7 +25,10 @@ returns-then-g-lt32-clause-size c =
     omega arith
 
 pub returns-else-g-lt32-clause-value : goal.returns-else-g-lt32-clause-value
-returns-else-g-lt32-clause-value c = rw c.pow-else-g-lt32.ensures (whole_quotient c.args.units c.args.g c.if-g-lt32.false)
+returns-else-g-lt32-clause-value c =
+    rw c.pow-else-g-lt32.ensures (whole_quotient c.args.units c.args.g c.if-g-lt32.false)
 
 pub returns-else-g-lt32-clause-size : goal.returns-else-g-lt32-clause-size
-returns-else-g-lt32-clause-size c = rw c.pow-else-g-lt32.ensures (squared_product c.args.units (c.args.g - 32) 24 c.requires.number (omega arith))
+returns-else-g-lt32-clause-size c =
+    let product = squared_product c.args.units (c.args.g - 32) 24 c.requires.number (omega arith) in
+    rw c.pow-else-g-lt32.ensures product
