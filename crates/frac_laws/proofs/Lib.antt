@@ -29,5 +29,6 @@ pub mod SmallNumbers
 pub mod SumFacts
 pub mod Sums
 pub mod Vectors
+pub mod Lengths
 pub mod WholeProducts
 pub mod WorkedCalls
