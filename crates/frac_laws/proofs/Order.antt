@@ -71,6 +71,9 @@ lt_or_le x y = cases (is_not_negative (x - y)) refl
 pub lt_of_not_le : {x y : Fraction} → ¬ (y ≤ x) → x < y
 lt_of_not_le {x} {y} h = elim (lt_or_le x y) [ inl k ↦ k | inr k ↦ absurd (h k) ]
 
+pub le_of_not_lt : {x y : Fraction} → ¬ (y < x) → x ≤ y
+le_of_not_lt {x} {y} h = elim (lt_or_le y x) [ inl k ↦ absurd (h k) | inr k ↦ k ]
+
 pub le_of_lt : {x y : Fraction} → x < y → x ≤ y
 le_of_lt h = le_of_not_le (not_le_of_lt h)
 
@@ -79,6 +82,18 @@ lt_le_trans h k = lt_of_not_le (λ l. not_le_of_lt h (le_trans k l))
 
 pub le_lt_trans : {x y z : Fraction} → x ≤ y → y < z → x < z
 le_lt_trans h k = lt_of_not_le (λ l. not_le_of_lt k (le_trans l h))
+
+pub lt_trans : {x y z : Fraction} → x < y → y < z → x < z
+lt_trans h k = lt_le_trans h (le_of_lt k)
+
+-- a strict fact and another fact, added
+pub add_lt_le : {a b c d : Fraction} → a < b → c ≤ d → a + c < b + d
+add_lt_le {a} {b} {c} {d} h k = lt_of_not_le (λ l. not_le_of_lt h
+    (le_by_gap (a ∷ b ∷ c ∷ d ∷ []) (add_gaps (gap l) (gap k)) (hlevel sides_of) refl))
+
+pub add_le_lt : {a b c d : Fraction} → a ≤ b → c < d → a + c < b + d
+add_le_lt {a} {b} {c} {d} h k = lt_of_not_le (λ l. not_le_of_lt k
+    (le_by_gap (a ∷ b ∷ c ∷ d ∷ []) (add_gaps (gap l) (gap h)) (hlevel sides_of) refl))
 
 pub lt_irrefl : (x : Fraction) → ¬ (x < x)
 lt_irrefl x h = not_le_of_lt h (le_refl x)

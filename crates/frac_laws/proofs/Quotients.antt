@@ -152,7 +152,7 @@ pub whole_suc : (n : ℕ) → whole (pos (suc n)) ≡ whole (pos 1) +ℚ whole (
 whole_suc n = (let e : pos (suc n) ≡ pos 1 +ℤ pos n = omega (arith, ints) in ap whole e)
     ∙ whole_add (pos 1) (pos n)
 
-times_one : (n : ℤ) → n *ℤ pos 1 ≡ n
+pub times_one : (n : ℤ) → n *ℤ pos 1 ≡ n
 times_one n = W.ring (n ∷ []) (hlevel W.terms) refl
 
 pub whole_le : {n m : ℤ} → n ≤ℤ m → whole n ≤ℚ whole m

@@ -1,9 +1,9 @@
 -- The order of two quotients of whole numbers by the order of their cross products.
-use Rattle.std.specs.Prelude.{◌≡◌, ◌↔◌, suc, zero, pos, negsuc, ℤ, ◌*ℤ◌, ◌<ℤ◌, ◌≤◌, unsigned_abs, ◌⊎◌}
+use Rattle.std.specs.Prelude.{◌≡◌, ◌↔◌, pos, negsuc, ℤ, ◌*ℤ◌, ◌<ℤ◌, ◌≤◌, unsigned_abs}
 use Rattle.std.specs.declared.cmp.Ordering.{Ordering}
 use Rattle.std.specs.declared.cmp.Ordering.TheVariants.{Less, Equal, Greater}
 use Rattle.std.specs.Ordering.{int_cmp, MatchOrdering}
-use Rattle.std.proofs.Common.{refl, arith, sym, inl, inr}
+use Rattle.std.proofs.Common.{refl, arith}
 use Rattle.std.proofs.lemmas.Int.{ints}
 use Rattle.std.proofs.lemmas.Cmp.{int_ranked}
 use Rattle.frac_laws.specs.Fraction.{Fraction, over, ◌<ℚ◌}
@@ -22,8 +22,8 @@ positive_size (negsuc d) h = absurd (omega (arith, ints))
 ranked : (n m d e : ℤ) (r : Ordering) → pos 0 <ℤ d → pos 0 <ℤ e
     → MatchOrdering r ((n *ℤ e) <ℤ (m *ℤ d)) (n *ℤ e ≡ m *ℤ d) ((m *ℤ d) <ℤ (n *ℤ e))
     → MatchOrdering r (over n (unsigned_abs d) <ℚ over m (unsigned_abs e))
-        (over n (unsigned_abs d) ≡ over m (unsigned_abs e))
-            (over m (unsigned_abs e) <ℚ over n (unsigned_abs d))
+    (over n (unsigned_abs d) ≡ over m (unsigned_abs e))
+    (over m (unsigned_abs e) <ℚ over n (unsigned_abs d))
 ranked n m d e Less a b h = over_lt_of_cross n m (unsigned_abs d) (unsigned_abs e) (positive_size d a)
     (positive_size e b) (rw (positive_is d a, positive_is e b) h)
 ranked n m d e Equal a b h = over_equal_of_cross n m (unsigned_abs d) (unsigned_abs e) (positive_size d a)

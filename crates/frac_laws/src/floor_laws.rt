@@ -1,4 +1,5 @@
-//! Laws of the floor and the ceiling of a quotient of whole numbers, below zero too.
+//! The floor and the ceiling of a quotient of whole numbers, below zero too. Each function says one law and
+//! computes nothing.
 
 ghost use Rattle.frac_laws.specs.FloorLaws.{FloorIsAtMost, FloorPlusOneIsAbove, FloorIsGreatest};
 ghost use Rattle.frac_laws.specs.FloorLaws.{CeilingIsAtLeast, CeilingMinusOneIsBelow, CeilingIsLeast};

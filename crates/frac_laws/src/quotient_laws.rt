@@ -1,8 +1,10 @@
-//! Laws of fractions that are written as quotients of whole numbers.
+//! Fractions that are written as quotients of whole numbers. Each function says one law and computes nothing.
 
-ghost use Rattle.frac_laws.specs.QuotientLaws.{QuotientsCompareByCross, QuotientsAreBelowByCross, QuotientsAreEqualByCross};
-ghost use Rattle.frac_laws.specs.QuotientLaws.{QuotientsAddOverOneDivisor, QuotientsAdd, QuotientsMultiply};
-ghost use Rattle.frac_laws.specs.QuotientLaws.{QuotientsHaveOpposites, QuotientsCancel, QuotientsTimesDivisor};
+ghost use Rattle.frac_laws.specs.QuotientLaws.{QuotientsCompareByCross, QuotientsAreBelowByCross};
+ghost use Rattle.frac_laws.specs.QuotientLaws.{QuotientsAreEqualByCross};
+ghost use Rattle.frac_laws.specs.QuotientLaws.{QuotientsAdd, QuotientsAddOverOneDivisor, QuotientsMultiply};
+ghost use Rattle.frac_laws.specs.QuotientLaws.{QuotientsHaveOpposites, QuotientsCancel};
+ghost use Rattle.frac_laws.specs.QuotientLaws.{QuotientsTimesDivisor};
 ghost use Rattle.frac_laws.specs.QuotientLaws.{WholeNumbersCompare, WholeNumbersAdd, WholeNumbersMultiply};
 
 /// `n/d <= m/e` exactly where `n e <= m d`.

@@ -29,3 +29,30 @@ impl Ratio {
         left.cmp(&right)
     }
 }
+
+#[cfg(test)]
+mod tests {
+    use super::*;
+
+    #[test]
+    fn orders_fractions(rt: HostRuntime) {
+        let third = Ratio { num: 1, den: 3 };
+        let half = Ratio { num: 1, den: 2 };
+        let two_quarters = Ratio { num: 2, den: 4 };
+        let below_zero = Ratio { num: -7, den: 2 };
+        let long = Ratio {
+            num: 1234567890123456789,
+            den: 9876543210987654321,
+        };
+        let longer = Ratio {
+            num: 1234567890123456788,
+            den: 9876543210987654320,
+        };
+
+        assert_eq!(rt; third.cmp_exact(&half), Ordering::Less);
+        assert_eq!(rt; half.cmp_exact(&third), Ordering::Greater);
+        assert_eq!(rt; half.cmp_exact(&two_quarters), Ordering::Equal);
+        assert_eq!(rt; below_zero.cmp_exact(&third), Ordering::Less);
+        assert_eq!(rt; long.cmp_exact(&longer), Ordering::Greater);
+    }
+}

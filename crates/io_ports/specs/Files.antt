@@ -1,7 +1,6 @@
 -- What a fetch says of the files that a shelf tells, and of its list of failures.
 use Rattle.std.specs.Prelude.{◌≡◌, ℕ, ◌<◌, ◌⊎◌, List, [], ◌∷◌, length, map, bytes_eq, Vec, ⊤, if◌then◌else◌}
 use Rattle.std.specs.Prelude.{Option, Some, None, IsSomeAnd, Result, Ok, Err, IsErrOf}
-use Rattle.std.specs.Io.KnownBytes.{Consumes}
 use Rattle.std.specs.declared.alloc.Global.{Global}
 use Rattle.io_ports.specs.declared.shelf.FetchError.{FetchError}
 use Rattle.io_ports.specs.declared.shelf.FetchError.TheVariants.{Failed, TooLong, Memory}
@@ -48,7 +47,3 @@ names_of names = map (λ name. name.items) names
 -- pairs of vectors, as pairs of lists
 abbrev pub files_of : List (Vec ℕ Global × Vec ℕ Global) → List (List ℕ × List ℕ)
 files_of files = map (λ file. (file.0.items, file.1.items)) files
-
--- a reader gave so many of the bytes that it is known to have left
-abbrev pub ConsumesMany : Option (List ℕ) → Option (List ℕ) → ℕ → Type 0
-ConsumesMany old new count = (bytes : List ℕ) × Consumes old new bytes × (length bytes ≡ count)

@@ -1,8 +1,9 @@
 // A shelf over real files. It tells none of them.
-ghost use Rattle.std.specs.Prelude.{◌≡◌, ℕ, ◌+◌, ◌-◌, ◌^◌, ◌<◌, ◌≤◌};
+ghost use Rattle.std.specs.Prelude.{◌≡◌, ℕ, ◌+◌, ◌-◌, ◌^◌, ◌<◌, ◌≤◌, ◌++◌};
 ghost use Rattle.std.specs.Prelude.{[], None, IfOk, IsErrOf, vec_len};
 ghost use Rattle.std.specs.Io.KnownBytes.{Consumes, IsAtEnd};
-ghost use Rattle.io_ports.specs.Files.{names_of, ConsumesMany};
+ghost use Rattle.io_ports.specs.Files.{names_of, failure_of};
+ghost use Rattle.io_ports.specs.Reads.{ConsumesMany, IsReadWhole, IsReadTo};
 
 use crate::{FetchError, Shelf};
 use std::alloc::Global;
@@ -29,9 +30,10 @@ impl<'a, R: Files> FileShelf<'a, R> {
     }
 }
 
-const CHUNK: u64 = 4096;
+/// The most bytes of one read.
+const CHUNK: usize = 4096;
 
-// Reads to the end, or until `most + 1` bytes were taken.
+// Reads to the end, or until `most + 1` bytes were taken. Each turn takes a byte or is the last.
 fn read_whole<F: Read>(file: &mut F, alloc: Global, most: u64) -> Result<Vec<u8>, FetchError>
     requires { most < 2 ^ 32 }
     ensures bound { IfOk result (λ bytes. vec_len bytes ≤ most) }
@@ -42,10 +44,10 @@ fn read_whole<F: Read>(file: &mut F, alloc: Global, most: u64) -> Result<Vec<u8>
     ensures taken { (seen : ℕ) → IsErrOf result (FetchError.TooLong seen) →
         ConsumesMany (F.remaining file.old) (F.remaining file.new) seen }
 {
-    let mut chunk = [0u8; 4096];
+    let mut chunk = [0u8; CHUNK];
     let mut bytes = Vec::new(alloc);
     while (bytes.len() as u64) <= most {
-        let left = (most + 1 - bytes.len() as u64).min(CHUNK);
+        let left = (most + 1 - bytes.len() as u64).min(CHUNK as u64);
         match file.read(&mut chunk[..left as usize]) {
             Ok(0) => return Ok(bytes),
             Ok(count) => bytes.extend_from_slice(&chunk[..count])?,
@@ -58,7 +60,9 @@ fn read_whole<F: Read>(file: &mut F, alloc: Global, most: u64) -> Result<Vec<u8>
 fn read_file<R: Files>(rt: &R, alloc: Global, name: &str, most: u64) -> Result<Vec<u8>, FetchError>
     requires { most < 2 ^ 32 }
     ensures bound { IfOk result (λ bytes. vec_len bytes ≤ most) }
+    ensures whole { IfOk result (λ bytes. IsReadWhole R.File.remaining bytes.items) }
     ensures seen { (seen : ℕ) → IsErrOf result (FetchError.TooLong seen) → seen ≡ most + 1 }
+    ensures taken { (seen : ℕ) → IsErrOf result (FetchError.TooLong seen) → IsReadTo R.File.remaining seen }
 {
     match fs::open(rt, name) {
         Ok(mut file) => read_whole(&mut file, alloc, most),
@@ -67,11 +71,21 @@ fn read_file<R: Files>(rt: &R, alloc: Global, name: &str, most: u64) -> Result<V
 }
 
 impl<R: Files> Shelf for FileShelf<'_, R> {
+    ghost use Rattle.io_ports.specs.FileShelf.{failed_in};
+
     ghost files = { λ shelf. None };
 
     ghost failed = { λ shelf. names_of shelf.failed.items };
 
-    fn fetch(&mut self, alloc: Global, name: &str, most: u64) -> Result<Vec<u8>, FetchError> {
+    fn fetch(&mut self, alloc: Global, name: &str, most: u64) -> Result<Vec<u8>, FetchError>
+        requires { most < 2 ^ 32 }
+        ensures bound { IfOk result (λ bytes. vec_len bytes ≤ most) }
+        ensures whole { IfOk result (λ bytes. IsReadWhole R.File.remaining bytes.items) }
+        ensures failed { failed_in self.new ≡ failed_in self.old ++ failure_of name.now result }
+        ensures seen { (seen : ℕ) → IsErrOf result (FetchError.TooLong seen) → seen ≡ most + 1 }
+        ensures taken { (seen : ℕ) → IsErrOf result (FetchError.TooLong seen) →
+            IsReadTo R.File.remaining seen }
+    {
         // Room for the name first, so that each failure is kept.
         let kept = name.as_bytes().to_vec(alloc)?;
         self.failed.reserve(1)?;

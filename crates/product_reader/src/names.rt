@@ -8,6 +8,7 @@ pub const PRODUCT_NAME_BYTES: usize = 40;
 /// The most bytes of a state's name.
 pub const STATE_NAME_BYTES: usize = 24;
 
+/// Whether a name may have the byte.
 fn is_name_byte(b: u8) -> bool
     ensures { result ≡ is_name_byte b }
 {

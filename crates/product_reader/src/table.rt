@@ -8,6 +8,7 @@ ghost use Rattle.product_reader.specs.Members.{only_text_at, only_table_at, key_
 use toml::value::Array;
 use toml::{Table, Value};
 
+/// How many keys the table has.
 pub fn key_count(table: &Table) -> usize
     ensures { result ≡ key_count (table_view table.now) }
 {
@@ -20,6 +21,7 @@ fn member_at<'a>(table: &'a Table, key: &str) -> Option<&'a Value>
     table.get(key)
 }
 
+/// The whole number at a key; a float and a boolean are none.
 pub fn whole_at(table: &Table, key: &str) -> Option<i64>
     ensures { result ≡ whole_at key.now (table_view table.now) }
 {
@@ -29,6 +31,7 @@ pub fn whole_at(table: &Table, key: &str) -> Option<i64>
     }
 }
 
+/// The string at a key.
 pub fn text_at<'a>(table: &'a Table, key: &str) -> Option<&'a str>
     ensures { option_copied result ≡ text_at key.now (table_view table.now) }
 {
@@ -62,6 +65,7 @@ fn only_at<'a>(table: &'a Table, key: &str) -> Option<&'a Value>
     }
 }
 
+/// The one item of the array at a key, where it is a whole number.
 pub fn only_whole_at(table: &Table, key: &str) -> Option<i64>
     ensures { result ≡ only_whole_at key.now (table_view table.now) }
 {
@@ -71,6 +75,7 @@ pub fn only_whole_at(table: &Table, key: &str) -> Option<i64>
     }
 }
 
+/// The one item of the array at a key, where it is a string.
 pub fn only_text_at<'a>(table: &'a Table, key: &str) -> Option<&'a str>
     ensures { option_copied result ≡ only_text_at key.now (table_view table.now) }
 {
@@ -80,6 +85,7 @@ pub fn only_text_at<'a>(table: &'a Table, key: &str) -> Option<&'a str>
     }
 }
 
+/// The one item of the array at a key, where it is a table.
 pub fn only_table_at<'a>(table: &'a Table, key: &str) -> Option<&'a Table>
     ensures { option_map (λ t. table_view t.now) result ≡ only_table_at key.now (table_view table.now) }
 {

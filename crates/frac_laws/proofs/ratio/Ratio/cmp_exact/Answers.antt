@@ -15,9 +15,9 @@ of_cross c =
     let other_num : FitsSigned w128 c.args.other.now.num = search rules in
     let other_den : FitsSigned w128 c.args.other.now.den = search rules in
     let cross : FitsSigned w128 (c.args.self.now.num *ℤ c.args.other.now.den) =
-        fits_signed_from_abs w128 _ c.requires.cross in
+    fits_signed_from_abs w128 _ c.requires.cross in
     let other_cross : FitsSigned w128 (c.args.other.now.num *ℤ c.args.self.now.den) =
-        fits_signed_from_abs w128 _ c.requires.other_cross in
+    fits_signed_from_abs w128 _ c.requires.other_cross in
     simp to_z-of_z at c.cmp.ensures
 
 pub returns-clause-less : goal.returns-clause-less

@@ -1,0 +1,17 @@
+pub mod VectorSums
+pub mod Runs
+pub mod Recurrences
+pub mod Combinations
+pub mod Superposition
+pub mod Cancelling
+pub mod Decay
+pub mod Totals
+pub mod TameSums
+pub mod TameDecay
+pub mod FirstOrder
+pub mod Growth
+pub mod Response
+pub mod Samples
+pub mod Dimensions
+pub mod Errors
+pub mod Solutions

@@ -1,0 +1,11 @@
+pub mod Systems
+pub mod Pairs
+pub mod Tame
+pub mod Driven
+pub mod Recurrence
+pub mod ScalarLaws
+pub mod DecayLaws
+pub mod GrowthLaws
+pub mod Samples
+pub mod ErrorLaws
+pub mod Solutions
