@@ -1,17 +1,12 @@
 -- The laws of driven sequences. The constants are those that tame systems need.
-use Rattle.std.specs.Prelude.{◌≡◌, ℕ, suc, pos, ◌<◌, ◌≤◌, ◌+◌, ◌-◌}
+use Rattle.std.specs.Prelude.{ℕ, suc, pos, ◌<◌, ◌≤◌, ◌+◌, ◌-◌}
 use Rattle.frac_laws.specs.Fraction.{Fraction, over, whole, ◌+ℚ◌, ◌*ℚ◌, ◌-ℚ◌, ◌≤ℚ◌}
 use Rattle.frac_laws.specs.Sums.{sum_to, power}
 use Rattle.frac_laws.specs.Convolution.{convolution}
 use Rattle.cell_laws.specs.Tame.{weighted}
 use Rattle.cell_laws.specs.Driven.{IsNatural, IsDriven, CanDecay}
 
--- the total of a convolution
-abbrev pub ConvolutionsTotal : Type 0
-ConvolutionsTotal =
-    (n : ℕ) (a b : ℕ → Fraction) → sum_to n (convolution a b) ≡ sum_to n (λ m. a m *ℚ sum_to (n - m) b)
-
--- it is at most the product of the two totals
+-- the total of a convolution is at most the product of the two totals
 abbrev pub ConvolutionsStayWithin : Type 0
 ConvolutionsStayWithin = (n : ℕ) (a b : ℕ → Fraction) → IsNatural a → IsNatural b
     → sum_to n (convolution a b) ≤ℚ sum_to n a *ℚ sum_to n b

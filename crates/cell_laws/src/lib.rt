@@ -15,7 +15,7 @@ pub use recurrence_laws::{
 };
 pub use sample_checks::{sample_values_are_exact, samples_are_tame};
 pub use scalar_laws::{
-    convolutions_total, driven_sequences_decay, driven_totals, second_order_parts_are_small,
+    convolutions_stay_within, driven_sequences_decay, driven_totals, second_order_parts_are_small,
     weighted_right_sides_are_small, weighted_tails_are_small,
 };
 pub use solution_laws::{defects_respond, solutions_are_driven, tame_right_sides_are_small};
