@@ -16,7 +16,7 @@ pub use recurrence_laws::{
     coefficients_recur, norms_are_driven, runs_superpose, taylor_value_sums,
     taylor_values_keep_dimension, taylor_values_stay_within,
 };
-pub use sample_checks::{sample_values_are_exact, samples_are_tame};
+pub use sample_checks::{sample_growths_are_least, sample_values_are_exact, samples_are_tame};
 pub use scalar_laws::{
     convolutions_stay_within, driven_sequences_decay, driven_totals, second_order_parts_are_small,
     weighted_right_sides_are_small,
