@@ -9,6 +9,7 @@ pub mod Gaps
 pub mod GeometricTails
 pub mod LedgerFacts
 pub mod LedgerLaws
+pub mod Lengths
 pub mod Linear
 pub mod ListProducts
 pub mod Norms
@@ -29,6 +30,5 @@ pub mod SmallNumbers
 pub mod SumFacts
 pub mod Sums
 pub mod Vectors
-pub mod Lengths
 pub mod WholeProducts
 pub mod WorkedCalls
