@@ -2,6 +2,9 @@ pub mod Cases
 pub mod Enclosures
 pub mod Endings
 pub mod FlatLedgers
+pub mod FlatRanges
+pub mod FlatTame
+pub mod FlatTaylor
 pub mod FlatValues
 pub mod Growth
 pub mod Parts

@@ -1,6 +1,7 @@
 pub mod Causes
 pub mod FlatLedger
 pub mod FlatRun
+pub mod FlatSystem
 pub mod Outcome
 pub mod Reports
 pub mod Text

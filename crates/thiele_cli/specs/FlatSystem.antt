@@ -1,0 +1,28 @@
+-- Thiele's equation of a flat product over a cell, as a cell system of one number.
+use Rattle.std.specs.Prelude.{◌≡◌, ℕ, suc, pos, ◌^◌, List, [], ◌∷◌}
+use Rattle.frac_laws.specs.Fraction.{Fraction, over, ◌*ℚ◌, opposite}
+use Rattle.frac_laws.specs.Lists.{Vector}
+use Rattle.cell_laws.specs.Systems.{System, taylor_value}
+use Rattle.product_reader.specs.FlatTree.{FlatProduct}
+use Rattle.thiele_cli.specs.FlatRun.{cell_interest, cell_payment, value_before_term}
+
+-- 1 / 2^g, by which values are scaled
+abbrev pub scaling : ℕ → Fraction
+scaling g = over (pos 1) (2 ^ g)
+
+-- w' = -r w + b over a cell, with values and payments scaled
+abbrev pub flat_system : FlatProduct → ℕ → System
+flat_system p g = record {
+  dimension = 1;
+  matrices = ((opposite (cell_interest p) ∷ []) ∷ []) ∷ [];
+  free = ((cell_payment p *ℚ scaling g) ∷ []) ∷ [];
+}
+
+-- the degree-n run that many cells before the term, scaled, as a vector of one number
+abbrev pub scaled_run : FlatProduct → (g n cells : ℕ) → Vector
+scaled_run p g n cells = (value_before_term p n cells *ℚ scaling g) ∷ []
+
+-- each cell of the run is a Taylor step of the system
+abbrev pub RunsAreTaylorValues : Type 0
+RunsAreTaylorValues = (p : FlatProduct) (g n cells : ℕ)
+    → scaled_run p g n (suc cells) ≡ taylor_value (flat_system p g) (scaled_run p g n cells) n
