@@ -2,11 +2,13 @@ pub mod Cases
 pub mod Enclosures
 pub mod Endings
 pub mod FlatLedgers
+pub mod FlatMoments
 pub mod FlatRanges
 pub mod FlatTame
 pub mod FlatTaylor
 pub mod FlatValues
 pub mod Growth
+pub mod LedgerSizes
 pub mod Parts
 pub mod Plans
 pub mod RowLines
