@@ -2,7 +2,10 @@ pub mod Cases
 pub mod Enclosures
 pub mod Endings
 pub mod FlatLedgers
+pub mod FlatEnds
+pub mod FlatMidpoints
 pub mod FlatMoments
+pub mod FlatNumbers
 pub mod FlatRanges
 pub mod FlatTame
 pub mod FlatTaylor

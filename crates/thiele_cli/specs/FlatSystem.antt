@@ -1,7 +1,9 @@
 -- Thiele's equation of a flat product over a cell, as a cell system of one number.
-use Rattle.std.specs.Prelude.{◌≡◌, ℕ, suc, pos, ◌^◌, List, [], ◌∷◌}
-use Rattle.frac_laws.specs.Fraction.{Fraction, over, ◌*ℚ◌, opposite}
+use Rattle.std.specs.Prelude.{◌≡◌, ℕ, suc, pos, ◌^◌, ◌≤◌, ℤ, [], ◌∷◌}
+use Rattle.frac_laws.specs.Fraction.{Fraction, over, ◌*ℚ◌, ◌≤ℚ◌, opposite}
 use Rattle.frac_laws.specs.Lists.{Vector}
+use Rattle.frac_laws.specs.Norms.{Sup}
+use Rattle.cell_laws.specs.ErrorLaws.{distance}
 use Rattle.cell_laws.specs.Systems.{System, taylor_value}
 use Rattle.product_reader.specs.FlatTree.{FlatProduct}
 use Rattle.thiele_cli.specs.FlatRun.{cell_interest, cell_payment, value_before_term}
@@ -26,3 +28,8 @@ scaled_run p g n cells = (value_before_term p n cells *ℚ scaling g) ∷ []
 abbrev pub RunsAreTaylorValues : Type 0
 RunsAreTaylorValues = (p : FlatProduct) (g n cells : ℕ)
     → scaled_run p g n (suc cells) ≡ taylor_value (flat_system p g) (scaled_run p g n cells) n
+
+-- for every degree n from 24 on the scaled run is within the radius of the number, both in units of 2^-64
+abbrev pub IsMidpoint : FlatProduct → (g cells : ℕ) → ℤ → ℕ → Type 0
+IsMidpoint p g cells mid radius = (n : ℕ) → 24 ≤ n
+    → distance Sup (scaled_run p g n cells) (over mid (2 ^ 64) ∷ []) ≤ℚ over (pos radius) (2 ^ 64)
