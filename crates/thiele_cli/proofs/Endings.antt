@@ -26,7 +26,7 @@ pub record EndsBy (files : Files) (words : List (List ℕ)) (at : End) : Type 0 
 pub ends_valued : (files : Files) (words : List (List ℕ)) (p : FlatProduct) → NameValued files words p → EndsBy files words Done
 ends_valued files words p named = record {
   own = valued;
-  holds = by_file named.bytes named.file (record { product = p; flat = named.flat; no_interest = named.no_interest });
+  holds = by_file named.bytes named.file (record { product = p; flat = named.flat });
   end = refl;
 }
 
