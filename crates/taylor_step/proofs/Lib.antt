@@ -1,0 +1,10 @@
+pub mod Blocks
+pub mod Fits
+pub mod Floors
+pub mod Rows
+pub mod Scaled
+pub mod Sizes
+pub mod Sparse
+pub mod SumForms
+pub mod Turns
+pub mod Windows
