@@ -1,0 +1,5 @@
+pub mod Clearing
+pub mod Columns
+pub mod Places
+pub mod Rows
+pub mod Writes
