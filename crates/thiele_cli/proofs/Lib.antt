@@ -1,7 +1,6 @@
 pub mod Cases
-pub mod Enclosures
+pub mod EndWidths
 pub mod Endings
-pub mod FlatLedgers
 pub mod FlatEnds
 pub mod FlatMidpoints
 pub mod FlatMoments
@@ -9,7 +8,6 @@ pub mod FlatNumbers
 pub mod FlatRanges
 pub mod FlatTame
 pub mod FlatTaylor
-pub mod FlatValues
 pub mod Growth
 pub mod LedgerSizes
 pub mod Parts
