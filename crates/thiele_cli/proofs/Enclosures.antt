@@ -1,4 +1,5 @@
--- The printed ends enclose the value, and are no further apart than the tolerance. The numbers that count units, 2^64,
+-- The printed ends enclose the value, and are no further apart than the tolerance. The numbers that count
+-- units, 2^64,
 -- 2^g and 10^6, stand here as u, g and m.
 use Rattle.std.specs.Prelude.{◌≡◌, ℕ, ◌+◌, ◌*◌, ◌≤◌, ◌<◌, ℤ, pos, ◌+ℤ◌, ◌-ℤ◌, ◌*ℤ◌, ◌≤ℤ◌, ◌<ℤ◌, List, [], ◌∷◌}
 use Rattle.std.proofs.Common.{refl, ap, sym, ◌∙◌, arith}
@@ -27,20 +28,25 @@ natural_products a b c =
     linear (whole (pos a) ∷ whole (pos b) ∷ whole (pos c) ∷ []) (natural a ⊠ natural_product b c) (hlevel claims) refl
 
 -- l u <= (k q - w) g m and 384 q g <= r u give 384 l u <= m k r u
-low_gap : (l q r k w g m u : Fraction) → l *ℚ u ≤ℚ (k *ℚ q -ℚ w) *ℚ (g *ℚ m) → q *ℚ (whole (pos 384) *ℚ g) ≤ℚ r *ℚ u
+low_gap : (l q r k w g m u : Fraction) → l *ℚ u ≤ℚ (k *ℚ q -ℚ w) *ℚ (g *ℚ m)
+    → q *ℚ (whole (pos 384) *ℚ g) ≤ℚ r *ℚ u
     → whole (pos 0) ≤ℚ k *ℚ m → whole (pos 0) ≤ℚ w *ℚ (g *ℚ m) → (l *ℚ whole (pos 384)) *ℚ u ≤ℚ (m *ℚ (k *ℚ r)) *ℚ u
 low_gap l q r k w g m u end payment factor spare =
-    linear (l ∷ q ∷ r ∷ k ∷ w ∷ g ∷ m ∷ u ∷ []) (end ⊠ natural 384 ⊞ payment ⊠ factor ⊞ spare ⊠ natural 384) (hlevel claims) refl
+    linear (l ∷ q ∷ r ∷ k ∷ w ∷ g ∷ m ∷ u ∷ []) (end ⊠ natural 384 ⊞ payment ⊠ factor ⊞ spare ⊠ natural 384)
+    (hlevel claims) refl
 
 -- (k q + w) g m <= h u, r u <= 384 (q + 1) g and k <= w give m k r u <= 384 h u
 high_gap : (h q r k w g m u : Fraction) → (k *ℚ q +ℚ w) *ℚ (g *ℚ m) ≤ℚ h *ℚ u
-    → r *ℚ u ≤ℚ q *ℚ (whole (pos 384) *ℚ g) +ℚ whole (pos 384) *ℚ g → k ≤ℚ w → whole (pos 0) ≤ℚ k *ℚ m → whole (pos 0) ≤ℚ g *ℚ m
+    → r *ℚ u ≤ℚ q *ℚ (whole (pos 384) *ℚ g) +ℚ whole (pos 384) *ℚ g → k ≤ℚ w → whole (pos 0) ≤ℚ k *ℚ m → whole
+    (pos 0) ≤ℚ g *ℚ m
     → (m *ℚ (k *ℚ r)) *ℚ u ≤ℚ (h *ℚ whole (pos 384)) *ℚ u
 high_gap h q r k w g m u end payment rounds factor size =
-    linear (h ∷ q ∷ r ∷ k ∷ w ∷ g ∷ m ∷ u ∷ []) (end ⊠ natural 384 ⊞ payment ⊠ factor ⊞ (rounds ⊠ size) ⊠ natural 384) (hlevel claims) refl
+    linear (h ∷ q ∷ r ∷ k ∷ w ∷ g ∷ m ∷ u ∷ [])
+    (end ⊠ natural 384 ⊞ payment ⊠ factor ⊞ (rounds ⊠ size) ⊠ natural 384) (hlevel claims) refl
 
 -- h u <= (v + w) g m + u, (v - w) g m <= l u + u and 2 w g m <= t u give h u <= (l + t + 2) u
-width_gap : (h l v w g m t u : Fraction) → h *ℚ u ≤ℚ (v +ℚ w) *ℚ (g *ℚ m) +ℚ u → (v +ℚ opposite w) *ℚ (g *ℚ m) ≤ℚ l *ℚ u +ℚ u
+width_gap : (h l v w g m t u : Fraction) → h *ℚ u ≤ℚ (v +ℚ w) *ℚ (g *ℚ m) +ℚ u
+    → (v +ℚ opposite w) *ℚ (g *ℚ m) ≤ℚ l *ℚ u +ℚ u
     → whole (pos 2) *ℚ (w *ℚ (g *ℚ m)) ≤ℚ t *ℚ u → h *ℚ u ≤ℚ (l +ℚ (t +ℚ whole (pos 2))) *ℚ u
 width_gap h l v w g m t u high low room =
     linear (h ∷ l ∷ v ∷ w ∷ g ∷ m ∷ t ∷ u ∷ []) (high ⊞ low ⊞ room) (hlevel claims) refl
@@ -60,8 +66,10 @@ lower_end_below lo rate cells w g m u some_units some_scale is_floor =
     let end : (lo *ℤ pos u) ≤ℤ (((pos cells *ℤ payment) -ℤ pos w) *ℤ pos (g * m)) =
     rw is_floor (floor_low (((pos cells *ℤ payment) -ℤ pos w) *ℤ pos (g * m)) (pos u) (positive u some_units)) in
     let rounded = floor_low (rate *ℤ pos u) (pos (384 * g)) (positive_384 g some_scale) in
-    let gap = low_gap (whole lo) (whole payment) (whole rate) (whole (pos cells)) (whole (pos w)) (whole (pos g)) (whole (pos m)) (whole (pos u))
-    (simp (whole_mul, whole_sub, whole_nat_mul) at (whole_le end)) (simp (whole_mul, whole_nat_mul) at (whole_le rounded))
+    let gap = low_gap (whole lo) (whole payment) (whole rate) (whole (pos cells)) (whole (pos w))
+    (whole (pos g)) (whole (pos m)) (whole (pos u))
+    (simp (whole_mul, whole_sub, whole_nat_mul) at (whole_le end))
+    (simp (whole_mul, whole_nat_mul) at (whole_le rounded))
     (natural_product cells m) (natural_products w g m) in
     product_le_cancel (lo *ℤ pos 384) (pos m *ℤ (pos cells *ℤ rate)) u some_units (le_of_whole (simp whole_mul gap))
 
@@ -75,8 +83,10 @@ upper_end_above hi rate cells w g m u some_units some_scale rounds is_ceiling =
     rw is_ceiling (ceiling_high (((pos cells *ℤ payment) +ℤ pos w) *ℤ pos (g * m)) (pos u) (positive u some_units)) in
     let below = floor_high (rate *ℤ pos u) (pos (384 * g)) (positive_384 g some_scale) in
     let rounded : (rate *ℤ pos u) ≤ℤ ((payment *ℤ pos (384 * g)) +ℤ pos (384 * g)) = omega (arith, ints, below) in
-    let gap = high_gap (whole hi) (whole payment) (whole rate) (whole (pos cells)) (whole (pos w)) (whole (pos g)) (whole (pos m)) (whole (pos u))
-    (simp (whole_mul, whole_add, whole_nat_mul) at (whole_le end)) (simp (whole_mul, whole_add, whole_nat_mul) at (whole_le rounded))
+    let gap = high_gap (whole hi) (whole payment) (whole rate) (whole (pos cells)) (whole (pos w))
+    (whole (pos g)) (whole (pos m)) (whole (pos u))
+    (simp (whole_mul, whole_add, whole_nat_mul) at (whole_le end))
+    (simp (whole_mul, whole_add, whole_nat_mul) at (whole_le rounded))
     (whole_le (omega (arith, ints))) (natural_product cells m) (natural_product g m) in
     product_le_cancel (pos m *ℤ (pos cells *ℤ rate)) (hi *ℤ pos 384) u some_units (le_of_whole (simp whole_mul gap))
 
@@ -86,19 +96,25 @@ ends_within_room : (lo hi mid : ℤ) (w g m u room : ℕ) → 0 < u → 2 * (w *
     → hi ≤ℤ (lo +ℤ pos (room + 2))
 ends_within_room lo hi mid w g m u room some_units enough is_floor is_ceiling =
     let below = floor_high ((mid -ℤ pos w) *ℤ pos (g * m)) (pos u) (positive u some_units) in
-    let low : ((mid -ℤ pos w) *ℤ pos (g * m)) ≤ℤ ((lo *ℤ pos u) +ℤ pos u) = rw is_floor (omega (arith, ints, below)) in
+    let low : ((mid -ℤ pos w) *ℤ pos (g * m)) ≤ℤ ((lo *ℤ pos u) +ℤ pos u) = rw is_floor
+    (omega (arith, ints, below)) in
     let above = ceiling_low ((mid +ℤ pos w) *ℤ pos (g * m)) (pos u) (positive u some_units) in
-    let high : (hi *ℤ pos u) ≤ℤ (((mid +ℤ pos w) *ℤ pos (g * m)) +ℤ pos u) = rw is_ceiling (omega (arith, ints, above)) in
-    let gap = width_gap (whole hi) (whole lo) (whole mid) (whole (pos w)) (whole (pos g)) (whole (pos m)) (whole (pos room)) (whole (pos u))
-    (simp (whole_mul, whole_add, whole_nat_mul) at (whole_le high)) (simp (whole_mul, whole_add, whole-opposite, whole_nat_mul) at (whole_le low))
+    let high : (hi *ℤ pos u) ≤ℤ (((mid +ℤ pos w) *ℤ pos (g * m)) +ℤ pos u) = rw is_ceiling
+    (omega (arith, ints, above)) in
+    let gap = width_gap (whole hi) (whole lo) (whole mid) (whole (pos w)) (whole (pos g)) (whole (pos m))
+    (whole (pos room)) (whole (pos u))
+    (simp (whole_mul, whole_add, whole_nat_mul) at (whole_le high))
+    (simp (whole_mul, whole_add, whole-opposite, whole_nat_mul) at (whole_le low))
     (simp whole_nat_mul at (whole_le (nat_le (2 * (w * (g * m))) (room * u) enough))) in
-    product_le_cancel hi (lo +ℤ pos (room + 2)) u some_units (le_of_whole (simp (whole_mul, whole_add, whole_nat_add) gap))
+    product_le_cancel hi (lo +ℤ pos (room + 2)) u some_units
+    (le_of_whole (simp (whole_mul, whole_add, whole_nat_add) gap))
   where
     nat_le : (a b : ℕ) → a ≤ b → pos a ≤ℤ pos b
     nat_le a b order = omega (arith, ints)
 
     whole_nat_add : (a b : ℕ) → whole (pos (a + b)) ≡ whole (pos a) +ℚ whole (pos b)
-    whole_nat_add a b = let sum : pos (a + b) ≡ pos a +ℤ pos b = omega (arith, ints) in ap whole sum ∙ whole_add (pos a) (pos b)
+    whole_nat_add a b = let sum : pos (a + b) ≡ pos a +ℤ pos b = omega (arith, ints) in ap whole sum ∙
+        whole_add (pos a) (pos b)
 
 -- the ends are no further apart than the tolerance
 pub ends_within : (lo hi mid : ℤ) (w g m u : ℕ) → 0 < u

@@ -77,8 +77,11 @@ fn plan_flat(alloc: Global, flat: &Flat) -> Result<Plan, AllocError>
     requires some_months { 1 ≤ flat.now.months }
     requires months { flat.now.months ≤ 1200 }
     requires rate { nat_abs flat.now.rate ≤ 10 ^ 12 }
-    ensures valued { flat.now.interest ≡ pos 0 → IfOk result (λ plan. (plan.end ≡ End.Done) × IsReportOf (product_of flat.now) plan.report plan.text.items) }
-    ensures unbuilt { ¬ (flat.now.interest ≡ pos 0) → IfOk result (λ plan. (plan.end ≡ End.NotBuilt) × Refuses plan.report plan.text.items (codes "refused unbuilt\n")) }
+    ensures valued { flat.now.interest ≡ pos 0 →
+        IfOk result (λ plan. (plan.end ≡ End.Done) × IsReportOf (product_of flat.now) plan.report plan.text.items) }
+    ensures unbuilt { ¬ (flat.now.interest ≡ pos 0) →
+        IfOk result (λ plan. (plan.end ≡ End.NotBuilt)
+        × Refuses plan.report plan.text.items (codes "refused unbuilt\n")) }
 {
     if flat.interest == 0 {
         return plan_value(alloc, flat);
@@ -108,8 +111,10 @@ pub fn plan_words<H: Shelf>(
     words: &[String],
     shelf: &mut H,
 ) -> Result<Plan, AllocError>
-    ensures settles { IfOk result (λ plan. Settles (H.files shelf.old) (words_of words.now) plan.end plan.report plan.text.items) }
-    ensures failed { IfOk result (λ plan. H.failed shelf.new ≡ H.failed shelf.old ++ failed_name plan.end (words_of words.now)) }
+    ensures settles { IfOk result (λ plan.
+        Settles (H.files shelf.old) (words_of words.now) plan.end plan.report plan.text.items) }
+    ensures failed { IfOk result (λ plan.
+        H.failed shelf.new ≡ H.failed shelf.old ++ failed_name plan.end (words_of words.now)) }
     ensures memory { OnErr result (H.failed shelf.new ≡ H.failed shelf.old) }
     ensures files { H.files shelf.new ≡ H.files shelf.old }
 {

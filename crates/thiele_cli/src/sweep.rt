@@ -17,7 +17,8 @@ fn scaled_payment(rate: i64, scale: u32) -> Fix
     from_fraction(i128::from(rate), CELLS_OF_YEAR * 2i128.pow(scale))
 }
 
-/// The value before a cell from the value behind it, in units of 2^-64 at the scale: without interest the payment is added.
+/// The value before a cell from the value behind it, in units of 2^-64 at the scale: without interest the payment is
+/// added.
 fn step(mid: i128, payment: Fix) -> i128
     requires mid { unsigned_abs mid ≤ 2 ^ 96 }
     requires payment { unsigned_abs payment.0 ≤ 2 ^ 64 }
