@@ -1,9 +1,11 @@
-pub mod Systems
-pub mod Pairs
-pub mod Tame
-pub mod Driven
-pub mod Recurrence
-pub mod ScalarLaws
 pub mod DecayLaws
+pub mod Driven
+pub mod ErrorLaws
 pub mod GrowthLaws
+pub mod Pairs
+pub mod Recurrence
 pub mod Samples
+pub mod ScalarLaws
+pub mod Solutions
+pub mod Systems
+pub mod Tame

@@ -6,6 +6,7 @@ mod floor_laws;
 mod ledger_laws;
 mod norm_laws;
 mod order_laws;
+mod polynomial_laws;
 mod quotient_laws;
 mod ratio;
 mod ring_laws;
@@ -31,6 +32,10 @@ pub use order_laws::{
     positive_factors_cancel, products_keep_order, products_keep_strict_order, sums_keep_order,
     sums_keep_strict_order,
 };
+pub use polynomial_laws::{
+    denominator_is_factor, multiples_stay_multiples, polynomials_keep_length,
+    polynomials_take_values, shifts_and_stretches_compose,
+};
 pub use quotient_laws::{
     quotients_add, quotients_add_over_one_divisor, quotients_are_below_by_cross,
     quotients_are_equal_by_cross, quotients_cancel, quotients_compare_by_cross,
@@ -47,9 +52,9 @@ pub use size_laws::{
     size_is_not_negative, size_is_within, size_of_opposite, size_of_product, size_of_sum,
 };
 pub use sum_laws::{
-    convolution_has_total, numbers_of_list_product, powers_add, powers_of_products, powers_sum,
-    size_of_sum_is_within_sizes, sum_of_multiples, sum_of_sums, sums_exchange,
-    tail_of_eighths_is_small, total_of_list_product,
+    convolution_has_total, convolution_is_within_totals, numbers_of_list_product, powers_add,
+    powers_of_products, powers_sum, size_of_sum_is_within_sizes, sum_of_multiples, sum_of_one_term,
+    sum_of_sums, sums_exchange, tail_of_eighths_is_small, total_of_list_product,
 };
 pub use worked_calls::{
     bound_is_divided, difference_of_squares, eighths_make_a_quarter, equations_are_used,
