@@ -1,0 +1,5 @@
+pub mod Differences
+pub mod Images
+pub mod Halves
+pub mod Residues
+pub mod Errors
