@@ -3,3 +3,8 @@ pub mod Images
 pub mod Halves
 pub mod Residues
 pub mod Errors
+pub mod Distances
+pub mod Grown
+pub mod StoredNorms
+pub mod Steps
+pub mod PairSteps
