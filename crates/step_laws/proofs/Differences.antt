@@ -1,5 +1,5 @@
 -- The difference of an exact matrix and the stored one: its numbers, its images and its norm.
-use Rattle.std.specs.Prelude.{◌≡◌, ℕ, suc, zero, pos, negsuc, List, [], ◌∷◌, length, ◌<◌, ◌≤◌, ◌^◌}
+use Rattle.std.specs.Prelude.{◌≡◌, ℕ, suc, zero, pos, negsuc, List, [], ◌∷◌, length, ◌≤◌, ◌^◌}
 use Rattle.std.proofs.Common.{refl, ap, sym, ◌∙◌, inl, inr, arith}
 use Rattle.std.proofs.lemmas.Bool.{cases_lt}
 use Rattle.std.proofs.lemmas.List.{get_or_past}
@@ -13,8 +13,8 @@ use Rattle.frac_laws.proofs.Order.{le_refl, le_trans, le_of_equal, le_antisym}
 use Rattle.frac_laws.proofs.Lengths.{add_lists_fits, scale_list_fits}
 use Rattle.frac_laws.proofs.Vectors.{number_at-subtract_lists, image-add, image-scale}
 use Rattle.frac_laws.proofs.Norms.{matrix_norm_natural, size_zero}
-use Rattle.frac_laws.proofs.SmallNumbers.{AreWithin, IsSmall, matrix_norm_of_small}
-use Rattle.step_laws.specs.StandsFor.{units, entry_at, MatricesFit, MatricesStandFor}
+use Rattle.frac_laws.proofs.SmallNumbers.{IsSmall, matrix_norm_of_small}
+use Rattle.step_laws.specs.StandsFor.{units, entry_at, MatricesStandFor}
 
 -- A_m - B_m
 abbrev pub difference : (exact stored : List Matrix) → ℕ → Matrix

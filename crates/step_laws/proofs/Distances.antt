@@ -1,8 +1,8 @@
 -- Distances of vectors: over a third vector, and of two sums.
-use Rattle.std.specs.Prelude.{◌≡◌, ℕ, suc, pos, [], ◌∷◌}
+use Rattle.std.specs.Prelude.{◌≡◌, ℕ, [], ◌∷◌}
 use Rattle.std.proofs.Common.{refl, ap, sym, ◌∙◌}
 use mathlib.Core.Path.{ap₂}
-use Rattle.frac_laws.specs.Fraction.{Fraction, whole, ◌+ℚ◌, ◌-ℚ◌, ◌≤ℚ◌}
+use Rattle.frac_laws.specs.Fraction.{◌+ℚ◌, ◌-ℚ◌, ◌≤ℚ◌}
 use Rattle.frac_laws.specs.Sums.{sum_to}
 use Rattle.frac_laws.specs.Lists.{Vector, number_at, add_lists, subtract_lists}
 use Rattle.frac_laws.specs.Norms.{Norm, norm_of_vector}

@@ -1,5 +1,5 @@
 -- The errors of a rounded run beside the exact one: their recurrence and their total.
-use Rattle.std.specs.Prelude.{◌≡◌, ℕ, suc, zero, pos, List, [], ◌∷◌, length, ◌<◌, ◌≤◌, ◌-◌, ◌^◌}
+use Rattle.std.specs.Prelude.{◌≡◌, ℕ, suc, pos, List, [], ◌∷◌, length, ◌<◌, ◌≤◌}
 use Rattle.std.proofs.Common.{refl, ap, sym, ◌∙◌, arith}
 use mathlib.Core.Path.{ap₂}
 use Rattle.frac_laws.specs.Fraction.{Fraction, over, whole, ◌+ℚ◌, ◌*ℚ◌, ◌-ℚ◌, ◌≤ℚ◌}
@@ -10,7 +10,7 @@ use Rattle.frac_laws.specs.Lists.{subtract_lists}
 use Rattle.frac_laws.specs.Norms.{Norm, Sup, Sum, norm_of_vector}
 use Rattle.frac_laws.proofs.FractionTerms.{ring, terms}
 use Rattle.frac_laws.proofs.Linear.{linear, equal, claims, natural, ◌⊞◌, ◌⊠◌}
-use Rattle.frac_laws.proofs.Order.{le_refl, le_trans, le_of_equal, add_mono}
+use Rattle.frac_laws.proofs.Order.{le_refl, le_trans, le_of_equal}
 use Rattle.frac_laws.proofs.Sizes.{size_of_natural}
 use Rattle.frac_laws.proofs.Signs.{sum_natural}
 use Rattle.frac_laws.proofs.Sums.{sum_to_add}

@@ -3,11 +3,9 @@ use Rattle.std.specs.Prelude.{◌≡◌, ℕ, pos, [], ◌∷◌, ◌+ℤ◌, �
 use Rattle.std.specs.Int.{div_ceil}
 use Rattle.std.proofs.Common.{refl, ap, sym, ◌∙◌, arith}
 use Rattle.std.proofs.lemmas.Int.{ints}
-use mathlib.Core.Path.{ap₂}
 use Rattle.frac_laws.specs.Fraction.{Fraction, over, whole, ◌+ℚ◌, ◌*ℚ◌, ◌≤ℚ◌}
 use Rattle.frac_laws.specs.Ledger.{grow}
-use Rattle.frac_laws.proofs.FractionTerms.{ring, terms}
-use Rattle.frac_laws.proofs.Linear.{linear, claims, natural, ◌⊞◌, ◌⊠◌, ◌·◌}
+use Rattle.frac_laws.proofs.Linear.{linear, claims, natural, ◌⊠◌}
 use Rattle.frac_laws.proofs.Order.{le_of_equal, le_trans}
 use Rattle.frac_laws.proofs.Quotients.{over_is, whole_add, whole_mul, whole_le}
 use Rattle.frac_laws.proofs.LedgerFacts.{rounded_up_le}

@@ -1,15 +1,15 @@
 -- Terms of a right side that are divided by k + 1: past the first power they count for half.
-use Rattle.std.specs.Prelude.{◌≡◌, ℕ, suc, zero, pos, [], ◌∷◌, ◌<◌, ◌≤◌, ◌-◌, ◌⊎◌}
-use Rattle.std.proofs.Common.{refl, ap, sym, ◌∙◌, inl, inr, arith}
-use Rattle.frac_laws.specs.Fraction.{Fraction, over, whole, ◌+ℚ◌, ◌*ℚ◌, ◌≤ℚ◌}
+use Rattle.std.specs.Prelude.{◌≡◌, ℕ, suc, zero, pos, [], ◌∷◌, ◌≤◌, ◌-◌}
+use Rattle.std.proofs.Common.{refl, arith}
+use Rattle.frac_laws.specs.Fraction.{Fraction, over, whole, ◌*ℚ◌, ◌≤ℚ◌}
 use Rattle.frac_laws.specs.Sums.{sum_to}
 use Rattle.frac_laws.specs.Convolution.{convolution}
 use Rattle.frac_laws.proofs.FractionTerms.{ring, terms}
-use Rattle.frac_laws.proofs.Linear.{linear, claims, natural, ◌⊞◌, ◌⊠◌}
+use Rattle.frac_laws.proofs.Linear.{linear, claims, natural, ◌⊠◌}
 use Rattle.frac_laws.proofs.Order.{le_refl, le_trans, le_of_equal}
 use Rattle.frac_laws.proofs.Sums.{sum_to_mono, sum_to_scale}
 use Rattle.frac_laws.proofs.Signs.{mul_natural}
-use Rattle.frac_laws.proofs.Convolutions.{sum_to_within, convolution_total_le}
+use Rattle.frac_laws.proofs.Convolutions.{sum_to_within}
 use Rattle.cell_laws.specs.Driven.{IsNatural}
 use Rattle.cell_laws.specs.ScalarLaws.{multiplied}
 use Rattle.cell_laws.proofs.Cancelling.{one_le_suc, two_le_suc}

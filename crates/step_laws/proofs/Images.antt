@@ -1,9 +1,8 @@
 -- How far the images of two sequences of vectors under exact and under stored matrices are apart.
-use Rattle.std.specs.Prelude.{◌≡◌, ℕ, suc, pos, negsuc, List, [], ◌∷◌, ◌<◌, ◌-◌}
+use Rattle.std.specs.Prelude.{◌≡◌, ℕ, suc, pos, negsuc, List, [], ◌∷◌, ◌-◌}
 use Rattle.std.proofs.Common.{refl, ap, sym, ◌∙◌}
 use mathlib.Core.Path.{ap₂}
 use Rattle.frac_laws.specs.Fraction.{Fraction, whole, opposite, ◌+ℚ◌, ◌*ℚ◌, ◌-ℚ◌, ◌≤ℚ◌, size}
-use Rattle.frac_laws.specs.Sums.{sum_to}
 use Rattle.frac_laws.specs.Convolution.{convolution}
 use Rattle.frac_laws.specs.Lists.{Vector, Matrix, number_at, vector_at, matrix_at, add_lists, scale_list}
 use Rattle.frac_laws.specs.Lists.{subtract_lists, dot, image}

@@ -8,3 +8,4 @@ pub mod Grown
 pub mod StoredNorms
 pub mod Steps
 pub mod PairSteps
+pub mod PairRadii

@@ -1,6 +1,6 @@
 -- What rounding down leaves: a vector of less than k + 1 units in each number.
 use Rattle.std.specs.Prelude.{◌≡◌, ℕ, suc, zero, pos, List, [], ◌∷◌, length, ◌<◌, ◌≤◌, ◌-◌, ◌^◌}
-use Rattle.std.proofs.Common.{refl, ap, sym, ◌∙◌, inl, inr, arith}
+use Rattle.std.proofs.Common.{refl, ap, ◌∙◌, inl, inr, arith}
 use mathlib.Core.Path.{ap₂}
 use Rattle.std.proofs.lemmas.Bool.{cases_lt}
 use Rattle.frac_laws.specs.Fraction.{Fraction, whole, ◌+ℚ◌, ◌*ℚ◌, ◌-ℚ◌, ◌≤ℚ◌, size}
@@ -8,8 +8,8 @@ use Rattle.frac_laws.specs.Lists.{Vector, Matrix, number_at, matrix_at, add_list
 use Rattle.frac_laws.specs.Lists.{subtract_lists, image}
 use Rattle.frac_laws.specs.Norms.{Norm, Sup, Sum, norm_of_vector}
 use Rattle.frac_laws.proofs.FractionTerms.{ring, terms}
-use Rattle.frac_laws.proofs.Linear.{linear, claims, natural, ◌⊞◌, ◌⊠◌}
-use Rattle.frac_laws.proofs.Order.{le_refl, le_trans, le_of_equal, le_of_lt}
+use Rattle.frac_laws.proofs.Linear.{linear, claims, natural}
+use Rattle.frac_laws.proofs.Order.{le_trans, le_of_equal, le_of_lt}
 use Rattle.frac_laws.proofs.Sizes.{size_of_natural}
 use Rattle.frac_laws.proofs.Signs.{mul_natural}
 use Rattle.frac_laws.proofs.Lengths.{add_lists_fits, scale_list_fits, subtract_lists_fits, image_fits}

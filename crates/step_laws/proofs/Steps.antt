@@ -1,27 +1,27 @@
 -- A rounded step of a stored system that stands for a tame one.
 use Rattle.std.specs.Prelude.{◌≡◌, ℕ, suc, pos, [], ◌∷◌, length, ◌<◌, ◌≤◌, ◌+◌, ◌-◌, ◌*◌, ◌^◌}
 use Rattle.std.proofs.Common.{refl, ap, sym, ◌∙◌, subst, arith}
-use Rattle.frac_laws.specs.Fraction.{Fraction, over, whole, ◌+ℚ◌, ◌*ℚ◌, ◌≤ℚ◌}
+use Rattle.frac_laws.specs.Fraction.{Fraction, over, whole, ◌+ℚ◌, ◌*ℚ◌, ◌-ℚ◌, ◌≤ℚ◌}
 use Rattle.frac_laws.specs.Sums.{sum_to}
-use Rattle.frac_laws.specs.Lists.{Vector, number_at, vector_at}
+use Rattle.frac_laws.specs.Lists.{Vector, SameNumbers, number_at, vector_at, subtract_lists}
 use Rattle.frac_laws.specs.Norms.{Norm, Sup, Sum, norm_of_vector}
 use Rattle.frac_laws.specs.Ledger.{grow}
-use Rattle.frac_laws.proofs.FractionTerms.{ring, terms}
 use Rattle.frac_laws.proofs.Linear.{linear, claims, natural, ◌⊞◌, ◌⊠◌}
-use Rattle.frac_laws.proofs.Order.{le_refl, le_trans, le_of_equal}
+use Rattle.frac_laws.proofs.Order.{le_trans, le_of_equal}
 use Rattle.frac_laws.proofs.Sums.{sum_to_first}
+use Rattle.frac_laws.proofs.Vectors.{number_at-subtract_lists}
+use Rattle.frac_laws.proofs.Norms.{norm-same}
 use Rattle.cell_laws.specs.Systems.{System, coefficient, taylor_value}
 use Rattle.cell_laws.specs.Tame.{growth_of, IsTame}
-use Rattle.cell_laws.specs.ScalarLaws.{multiplied}
 use Rattle.cell_laws.specs.DecayLaws.{norms}
-use Rattle.cell_laws.specs.GrowthLaws.{later_powers, growth_factor}
+use Rattle.cell_laws.specs.GrowthLaws.{later_powers}
 use Rattle.cell_laws.specs.ErrorLaws.{distance}
 use Rattle.cell_laws.proofs.Recurrences.{coefficients_recur, taylor_value_sums}
 use Rattle.cell_laws.proofs.TameSums.{total_within}
 use Rattle.cell_laws.proofs.TameDecay.{stored_coefficients_decay}
 use Rattle.cell_laws.proofs.Errors.{errors_grow, stored_later_degrees_are_close}
 use Rattle.step_laws.specs.StandsFor.{units, StandsFor}
-use Rattle.step_laws.specs.RoundedRuns.{IsRoundedStep}
+use Rattle.step_laws.specs.RoundedRuns.{IsRoundedRun, IsRoundedStep}
 use Rattle.step_laws.specs.StepLaws.{most_numbers, IsStartNear, StepsStayWithinTheirRadius}
 use Rattle.step_laws.proofs.Halves.{halved, halved_term, halved_total, IsShort}
 use Rattle.step_laws.proofs.Residues.{spread}
@@ -64,7 +64,7 @@ module _ (norm : Norm) (kappa40 : ℕ) (stored exact : System) (mid new : Vector
     right = stands.free.stored_fit.numbers;
     fits = λ k b. subst (λ d. length (z k) ≤ d) stands.dimension (step.fits k b);
     rounded = λ k i b c. step.rounded k i b (subst (λ d. i < d) (sym stands.dimension) c);
-    starts = λ i. ap (λ v. number_at v i) (sym step.starts);
+    starts = λ i. sym (step.starts i);
   }
 
   -- |y_k - z_k|
@@ -133,6 +133,22 @@ module _ (norm : Norm) (kappa40 : ℕ) (stored exact : System) (mid new : Vector
           → x ≤ℚ units 917
       join x y t h1 h2 h3 = linear (x ∷ y ∷ t ∷ []) (h1 ⊞ h2 ⊞ h3) (hlevel claims) refl
 
+-- a run starts from its first coefficient, which has the numbers of its start
+pub from_first : {d : ℕ} {sums : (k i : ℕ) → Fraction} {start new : Vector} {z : ℕ → Vector}
+    → IsRoundedRun d sums start new z → IsRoundedRun d sums (z 0) new z
+from_first r = record { starts = λ i. refl; fits = r.fits; rounded = r.rounded; total = r.total }
+
+pub near_first : (norm : Norm) (d rad : ℕ) (most : Fraction) (y mid first : Vector) → SameNumbers first mid
+    → IsStartNear norm d most rad y mid → IsStartNear norm d most rad y first
+near_first norm d rad most y mid first h s = record {
+  fits = s.fits;
+  small = s.small;
+  near = le_trans (le_of_equal (norm-same norm (subtract_lists y first) (subtract_lists y mid) (λ i.
+      number_at-subtract_lists y first i ∙ ap (λ t. number_at y i -ℚ t) (h i)
+      ∙ sym (number_at-subtract_lists y mid i)))) s.near;
+  radius = s.radius;
+}
+
 -- a stored start is of norm at most 17/8
 stored_start : (norm : Norm) (d rad : ℕ) (y mid : Vector) → IsStartNear norm d (whole (pos 2)) rad y mid
     → norm_of_vector norm mid ≤ℚ over (pos 17) 8
@@ -143,16 +159,18 @@ stored_start norm d rad y mid s = join (norm_of_vector norm mid) (norm_of_vector
         → m ≤ℚ over (pos 17) 8
     join m x e r h1 h2 h3 h4 = linear (m ∷ x ∷ e ∷ r ∷ []) (h1 ⊞ h2 ⊞ h3 ⊞ h4) (hlevel claims) refl
 
-pub steps_stay_within_their_radius : StepsStayWithinTheirRadius
-steps_stay_within_their_radius norm kappa40 rad n stored exact y mid new z stands dimension tame step start b =
+steps_from : (norm : Norm) (kappa40 rad n : ℕ) (stored exact : System) (y mid new : Vector) (z : ℕ → Vector)
+    → StandsFor stored exact → exact.dimension ≤ most_numbers norm → IsTame norm kappa40 exact
+    → IsRoundedStep stored mid new z → IsStartNear norm exact.dimension (whole (pos 2)) rad y mid → 24 ≤ n
+    → length mid ≤ exact.dimension
+    → distance norm (taylor_value exact y n) new ≤ℚ units (grow rad kappa40 1023)
+steps_from norm kappa40 rad n stored exact y mid new z stands dimension tame step start b fits =
     join (distance norm (taylor_value exact y n) new)
     (distance norm (taylor_value exact y n) (taylor_value exact mid n))
     (distance norm (taylor_value exact mid n) new) (growth_of kappa40)
     (later_powers norm exact.matrices n) (distance norm y mid) (units rad) (units (grow rad kappa40 1023))
     (triangle norm (taylor_value exact y n) (taylor_value exact mid n) new)
-    (errors_grow norm kappa40 exact y mid n tame start.fits
-    (subst (λ d. length mid ≤ d) stands.dimension
-    (subst (λ v. length v ≤ stored.dimension) step.starts (step.fits 0 (omega arith)))))
+    (errors_grow norm kappa40 exact y mid n tame start.fits fits)
     (no_later_powers norm exact.dimension exact.matrices stands.matrices.exact_fit n b)
     start.near
     (later_rounding_is_small norm kappa40 stored exact mid new z stands dimension tame step
@@ -164,3 +182,9 @@ steps_stay_within_their_radius norm kappa40 rad n stored exact y mid new z stand
         → (whole (pos 1) +ℚ g) *ℚ r +ℚ units 1023 ≤ℚ w → x ≤ℚ w
     join x p q g l e r w h1 h2 z h4 h5 hg h6 = linear (x ∷ p ∷ q ∷ g ∷ e ∷ r ∷ w ∷ [])
         (h1 ⊞ (rw z at h2) ⊞ h4 ⊞ hg ⊠ h4 ⊞ h5 ⊞ h6) (hlevel claims) refl
+
+pub steps_stay_within_their_radius : StepsStayWithinTheirRadius
+steps_stay_within_their_radius norm kappa40 rad n stored exact y mid new z stands dimension tame step start b =
+    steps_from norm kappa40 rad n stored exact y (z 0) new z stands dimension tame (from_first step)
+    (near_first norm exact.dimension rad (whole (pos 2)) y mid (z 0) step.starts start) b
+    (subst (λ d. length (z 0) ≤ d) stands.dimension (step.fits 0 (omega arith)))

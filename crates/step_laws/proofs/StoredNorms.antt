@@ -1,25 +1,24 @@
 -- The norms of what a stored system differs by from the exact one, and sums of tame systems' norms.
-use Rattle.std.specs.Prelude.{◌≡◌, ℕ, suc, zero, pos, List, [], ◌∷◌, length, ◌<◌, ◌≤◌, ◌+◌, ◌-◌, ◌^◌}
-use Rattle.std.proofs.Common.{refl, ap, sym, ◌∙◌, inl, inr, arith}
+use Rattle.std.specs.Prelude.{◌≡◌, ℕ, suc, zero, pos, List, [], ◌∷◌, length, ◌≤◌, ◌+◌, ◌-◌, ◌^◌}
+use Rattle.std.proofs.Common.{refl, ap, ◌∙◌, inl, inr, arith}
 use Rattle.std.proofs.lemmas.Bool.{cases_lt}
 use Rattle.frac_laws.specs.Fraction.{Fraction, over, whole, ◌+ℚ◌, ◌*ℚ◌, ◌-ℚ◌, ◌≤ℚ◌, size}
 use Rattle.frac_laws.specs.Sums.{sum_to, power}
 use Rattle.frac_laws.specs.Lists.{Vector, Matrix, number_at, vector_at, subtract_lists}
-use Rattle.frac_laws.specs.Norms.{Norm, norm_of_vector, norm_of_matrix}
+use Rattle.frac_laws.specs.Norms.{Norm}
 use Rattle.frac_laws.proofs.FractionTerms.{ring, terms}
 use Rattle.frac_laws.proofs.Linear.{linear, claims, natural, ◌⊞◌, ◌⊠◌}
 use Rattle.frac_laws.proofs.Order.{le_refl, le_trans, le_of_equal, le_antisym}
 use Rattle.frac_laws.proofs.Sums.{sum_to_ext, sum_to_add, sum_to_mono, sum_to_zeros}
 use Rattle.frac_laws.proofs.Lengths.{subtract_lists_fits}
 use Rattle.frac_laws.proofs.Vectors.{number_at-subtract_lists}
-use Rattle.frac_laws.proofs.Norms.{norm_natural, matrix_norm_natural, size_zero}
+use Rattle.frac_laws.proofs.Norms.{norm_natural, size_zero}
 use Rattle.frac_laws.proofs.SmallNumbers.{matrix_norm_of_small}
 use Rattle.frac_laws.proofs.GeometricTails.{tail_of_eighths}
-use Rattle.cell_laws.specs.Tame.{matrix_norm_at, weighted, total_norm, weighted_norm}
-use Rattle.cell_laws.specs.Driven.{IsNatural}
+use Rattle.cell_laws.specs.Tame.{matrix_norm_at, weighted, weighted_norm}
 use Rattle.cell_laws.specs.GrowthLaws.{later_powers}
 use Rattle.cell_laws.specs.ErrorLaws.{distance}
-use Rattle.cell_laws.proofs.TameSums.{matrix_norms_natural, total_within, weighted_within}
+use Rattle.cell_laws.proofs.TameSums.{matrix_norms_natural, weighted_within}
 use Rattle.step_laws.specs.StandsFor.{units, MatricesFit, MatricesStandFor, VectorsStandFor}
 use Rattle.step_laws.proofs.Differences.{change_is_small, no_change_past, number_past, both_zero}
 use Rattle.step_laws.proofs.Images.{changes, stored_factors, changes_natural}
