@@ -1,0 +1,11 @@
+pub mod Differences
+pub mod Images
+pub mod Halves
+pub mod Residues
+pub mod Errors
+pub mod Distances
+pub mod Grown
+pub mod StoredNorms
+pub mod Steps
+pub mod PairSteps
+pub mod PairRadii
