@@ -1,3 +1,3 @@
-pub mod StandsFor
 pub mod RoundedRuns
+pub mod StandsFor
 pub mod StepLaws
