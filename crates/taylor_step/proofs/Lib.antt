@@ -1,6 +1,9 @@
 pub mod Blocks
 pub mod Fits
 pub mod Floors
+pub mod Promise
+pub mod PromiseRuns
+pub mod PromiseVectors
 pub mod Rows
 pub mod Scaled
 pub mod Sizes
