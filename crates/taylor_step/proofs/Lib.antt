@@ -2,6 +2,7 @@ pub mod Blocks
 pub mod Fits
 pub mod Floors
 pub mod Promise
+pub mod PromisePair
 pub mod PromiseRuns
 pub mod PromiseVectors
 pub mod Rows
