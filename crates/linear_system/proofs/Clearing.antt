@@ -1,8 +1,8 @@
 -- A stored system with all numbers set to 0.
-use Rattle.std.proofs.Common.{◌≡◌, ℕ, suc, zero, ◌^◌, ◌+◌, ◌*◌, ◌<◌, ◌≤◌, ◌⊎◌, inl, inr, length, get_or, set, map, List, [], ◌∷◌}
+use Rattle.std.proofs.Common.{◌≡◌, ℕ, ◌+◌, ◌<◌, ◌≤◌, ◌⊎◌, inl, inr, length, get_or, set, map, List}
 use Rattle.std.proofs.Common.{ℤ, pos, refl, ap, sym, ◌∙◌, arith, get_or-set_other, get_or-set_same}
 use Rattle.std.specs.Prelude.{replicate}
-use Rattle.std.proofs.Math.ListN.{length-map, length-set, length-replicate}
+use Rattle.std.proofs.Math.ListN.{length-map}
 use Rattle.std.proofs.lemmas.List.{map-set, get_or-map, get_or_past}
 use Rattle.linear_system.specs.StoredSystem.{StoredRow, StoredSystem, IsSystem, IsRow, dim_of, row_of, no_row}
 use Rattle.linear_system.specs.Setting.{HaveSamePlaces, HasNoNumbers}

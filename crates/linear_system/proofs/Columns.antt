@@ -1,6 +1,6 @@
 -- The columns of a row, one after another.
 use Rattle.std.proofs.Common.{◌≡◌, ℕ, suc, zero, ◌+◌, ◌<◌, ◌≤◌, ◌⊎◌, inl, inr, length, get_or, List, [], ◌∷◌, ◌++◌}
-use Rattle.std.proofs.Common.{refl, ap, sym, ◌∙◌, arith, Bool, true, false, add-one}
+use Rattle.std.proofs.Common.{refl, ap, arith, Bool, true, false, add-one}
 use Rattle.std.specs.Prelude.{nat_eq, cond, ◌↔◌, IsTrue}
 use Rattle.std.proofs.Math.ListN.{length-append}
 use Rattle.linear_system.specs.StoredSystem.{AreColumns, AreDistinct, none, also, place_of}

@@ -1,9 +1,8 @@
 -- Where the numbers of a row stand.
-use Rattle.std.proofs.Common.{◌≡◌, ℕ, suc, zero, ◌+◌, ◌*◌, ◌<◌, ◌≤◌, length, get_or, List, [], ◌∷◌, refl, ap, sym, ◌∙◌, arith}
-use Rattle.std.proofs.Common.{Bool, true, false, ℤ, pos}
+use Rattle.std.proofs.Common.{◌≡◌, ℕ, suc, zero, ◌+◌, ◌*◌, ◌<◌, length, get_or, List, [], ◌∷◌, refl, ap, arith}
+use Rattle.std.proofs.Common.{Bool, true, false, pos}
 use Rattle.std.specs.Prelude.{nat_eq, cond, replicate}
 use Rattle.linear_system.specs.StoredSystem.{place_of}
-use Rattle.linear_system.proofs.Columns.{differ, same}
 
 -- two columns with one place are one column
 pub one_column : (cs : List ℕ) (i j : ℕ) → place_of cs i < length cs → place_of cs i ≡ place_of cs j → i ≡ j

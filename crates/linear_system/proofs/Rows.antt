@@ -1,13 +1,13 @@
 -- Rows of zeros, one after another.
-use Rattle.std.proofs.Common.{◌≡◌, ℕ, suc, zero, ◌+◌, ◌*◌, ◌<◌, ◌≤◌, ◌^◌, length, get_or, set, map, take, List, [], ◌∷◌, ◌++◌}
-use Rattle.std.proofs.Common.{refl, ap, sym, ◌∙◌, arith, ℤ, pos, Bool, true, false, add-one}
+use Rattle.std.proofs.Common.{◌≡◌, ℕ, suc, zero, ◌+◌, ◌*◌, ◌<◌, ◌≤◌, ◌^◌, length, get_or, map, List, [], ◌∷◌, ◌++◌}
+use Rattle.std.proofs.Common.{refl, ap, ◌∙◌, arith, ℤ, pos, Bool, true, false}
 use Rattle.std.proofs.Common.{◌⊎◌, inl, inr}
 use Rattle.std.proofs.lemmas.List.{get_or_past}
 use Rattle.std.specs.Prelude.{unsigned_abs, nat_eq, cond, replicate, ◌↔◌, IsTrue}
 use Rattle.std.proofs.Math.ListN.{length-append, length-map, length-replicate}
-use Rattle.linear_system.specs.StoredSystem.{StoredRow, StoredSystem, IsSystem, IsRow, AreColumns, dim_of, row_of, no_row}
-use Rattle.linear_system.specs.StoredSystem.{place_of, number_in_row, stored_number}
-use Rattle.linear_system.specs.Setting.{HasPlace, IsMadeFor, HasNoNumbers, may_hold}
+use Rattle.linear_system.specs.StoredSystem.{StoredRow, StoredSystem, IsSystem, IsRow, AreColumns, no_row}
+use Rattle.linear_system.specs.StoredSystem.{place_of, number_in_row}
+use Rattle.linear_system.specs.Setting.{IsMadeFor, HasNoNumbers, may_hold}
 use Rattle.linear_system.specs.Layout.{stored_row}
 use Rattle.linear_system.specs.declared.row.Row.{Row}
 use Rattle.linear_system.proofs.Places.{zero_at}

@@ -1,12 +1,12 @@
 -- A stored system after a write: it keeps what every stored system keeps, and has the numbers that it should.
-use Rattle.std.proofs.Common.{◌≡◌, ℕ, suc, zero, ◌^◌, ◌+◌, ◌*◌, ◌<◌, ◌≤◌, ◌⊎◌, inl, inr, length, get_or, set, map, List, [], ◌∷◌}
+use Rattle.std.proofs.Common.{◌≡◌, ℕ, ◌^◌, ◌+◌, ◌*◌, ◌<◌, ◌≤◌, ◌⊎◌, inl, inr, length, get_or, set, map, List}
 use Rattle.std.proofs.Common.{ℤ, pos, refl, ap, sym, ◌∙◌, arith, get_or-set_other, get_or-set_same, Bool, true, false}
 use Rattle.std.specs.Prelude.{unsigned_abs, nat_eq, cond, ◌&&◌}
 use Rattle.std.proofs.Math.ListN.{length-set, length-map}
 use Rattle.std.proofs.lemmas.List.{map-set, get_or-map}
 use Rattle.linear_system.specs.StoredSystem.{StoredRow, StoredSystem, IsSystem, IsRow, dim_of, row_of, no_row, place_of}
 use Rattle.linear_system.specs.StoredSystem.{stored_number, number_in_row}
-use Rattle.linear_system.specs.Setting.{SetsOnly, HaveSamePlaces}
+use Rattle.linear_system.specs.Setting.{SetsOnly}
 use Rattle.linear_system.specs.Changes.{row_with_number, with_number, HasColumn}
 use Rattle.linear_system.specs.Layout.{stored_row}
 use Rattle.linear_system.specs.declared.row.Row.{Row}

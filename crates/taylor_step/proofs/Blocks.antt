@@ -1,5 +1,5 @@
 -- A block written into a strip.
-use Rattle.std.proofs.Common.{◌≡◌, ℕ, suc, zero, ◌^◌, ◌+◌, ◌*◌, ◌-◌, ◌<◌, ◌≤◌, length, get_or, set, map, List, [], ◌∷◌, ◌++◌, take, drop, ℤ, pos, refl, ap, sym, ◌∙◌, arith, add-one}
+use Rattle.std.proofs.Common.{◌≡◌, ℕ, suc, zero, ◌+◌, ◌<◌, ◌≤◌, length, get_or, set, map, List, [], ◌∷◌, ◌++◌, take, drop, ℤ, pos, refl, ap, arith, add-one}
 use Rattle.std.proofs.Math.ListN.{length-map, length-take}
 use Rattle.std.proofs.lemmas.List.{take_more, map-append}
 use Rattle.taylor_step.specs.Strips.{put_at, zeros, over_front}

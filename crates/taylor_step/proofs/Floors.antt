@@ -1,21 +1,21 @@
 -- The whole-number run is a rounded run: each floor leaves out at least 0 and less than k + 1 units.
-use Rattle.std.specs.Prelude.{◌≡◌, ℕ, suc, zero, pos, ℤ, ◌+ℤ◌, ◌*ℤ◌, ◌≤ℤ◌, ◌<ℤ◌, List, [], ◌∷◌, length, refl, ◌<◌, ◌≤◌, ◌+◌, ◌*◌, ◌-◌, ◌^◌, slice_index_or}
+use Rattle.std.specs.Prelude.{◌≡◌, ℕ, suc, zero, pos, ℤ, ◌+ℤ◌, ◌*ℤ◌, ◌<ℤ◌, List, [], ◌∷◌, length, refl, ◌<◌, ◌*◌, ◌^◌, slice_index_or}
 use Rattle.std.proofs.Common.{ap, sym, ◌∙◌, arith, ◌++◌}
 use Rattle.std.proofs.lemmas.Int.{ints}
 use mathlib.Core.Path.{ap₂}
-use Rattle.frac_laws.specs.Fraction.{Fraction, over, whole, ◌+ℚ◌, ◌*ℚ◌, ◌-ℚ◌, opposite, ◌≤ℚ◌, ◌<ℚ◌}
+use Rattle.frac_laws.specs.Fraction.{Fraction, whole, ◌+ℚ◌, ◌*ℚ◌, ◌-ℚ◌, opposite, ◌≤ℚ◌, ◌<ℚ◌}
 use Rattle.frac_laws.specs.Rounding.{floor_of}
 use Rattle.frac_laws.specs.Sums.{sum_to}
 use Rattle.frac_laws.proofs.FractionTerms.{ring, terms}
-use Rattle.frac_laws.proofs.Linear.{linear, linear_lt, claims, ◌⊞◌, ◌⊠◌, ◌·◌, natural}
+use Rattle.frac_laws.proofs.Linear.{linear, linear_lt, claims, ◌⊞◌, ◌⊠◌, ◌·◌}
 use Rattle.frac_laws.proofs.Order.{add_lt_le, le_of_lt}
 use Rattle.frac_laws.proofs.Positive.{mul_lt, mul_positive, over_positive}
 use Rattle.frac_laws.proofs.Quotients.{whole_le, whole_lt, whole_add, whole_mul, inverse}
 use Rattle.frac_laws.proofs.RoundingLaws.{floor_low, floor_high}
 use Rattle.fixed_num.specs.Products.{sum_of_products}
-use Rattle.linear_system.specs.StoredSystem.{StoredSystem, IsSystem, row_of, dim_of, stored_free}
+use Rattle.linear_system.specs.StoredSystem.{StoredSystem, IsSystem, row_of, dim_of}
 use Rattle.linear_system.specs.StandsFor.{units}
-use Rattle.taylor_step.specs.RoundedRun.{IsRoundedRun, IsRoundedValue, stored_image, unrounded, left_out}
+use Rattle.taylor_step.specs.RoundedRun.{IsRoundedRun, IsRoundedValue, left_out}
 use Rattle.taylor_step.specs.WholeRun.{strip, past, coefficient, value_to}
 use Rattle.taylor_step.proofs.Scaled.{unit, units_is, exact_sum}
 

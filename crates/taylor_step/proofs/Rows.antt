@@ -1,11 +1,10 @@
 -- One row's strip after another.
-use Rattle.std.proofs.Common.{◌≡◌, ℕ, suc, zero, ◌^◌, ◌+◌, ◌*◌, ◌-◌, ◌<◌, ◌≤◌, ◌⊎◌, inl, inr, length, get_or, set, map, List, [], ◌∷◌, ◌++◌, take, drop, ℤ, pos, refl, ap, sym, ◌∙◌, arith, Vec, Global, get_or-set_other, get_or-set_same, below_more}
+use Rattle.std.proofs.Common.{◌≡◌, ℕ, suc, zero, ◌+◌, ◌*◌, ◌-◌, ◌<◌, ◌≤◌, ◌⊎◌, inl, inr, length, get_or, set, map, List, [], ◌∷◌, ◌++◌, ℤ, refl, ap, sym, ◌∙◌, arith, Vec, Global, get_or-set_other, get_or-set_same}
 use Rattle.std.proofs.Math.ListN.{length-set, length-map, length-append}
 use Rattle.std.specs.Vec.{with_items}
 use Rattle.std.proofs.lemmas.List.{map-set, get_or-map, with_items_is}
 use Rattle.taylor_step.proofs.Blocks.{length-put_at}
-use Rattle.taylor_step.specs.Strips.{put_at, zeros, HasRoom}
-use Rattle.taylor_step.specs.WholeRun.{strip}
+use Rattle.taylor_step.specs.Strips.{put_at, HasRoom}
 use Rattle.linear_system.specs.StoredSystem.{StoredSystem, row_of, dim_of}
 use Rattle.frac_laws.specs.Fraction.{size}
 

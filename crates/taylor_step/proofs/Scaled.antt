@@ -1,17 +1,17 @@
 -- The whole-number step, in units: the sum that each rounded number is the floor of.
-use Rattle.std.specs.Prelude.{◌≡◌, ℕ, suc, zero, pred, pos, negsuc, ℤ, ◌+ℤ◌, ◌*ℤ◌, List, [], ◌∷◌, ◌++◌, length, map, refl, ◌<◌, ◌≤◌, ◌+◌, ◌*◌, ◌-◌, ◌^◌, ◌⊎◌, Bool, true, false, cond, nat_eq, slice_index_or}
-use Rattle.std.proofs.Common.{ap, sym, ◌∙◌, arith, inl, inr}
+use Rattle.std.specs.Prelude.{◌≡◌, ℕ, suc, zero, pos, ℤ, List, [], ◌∷◌, ◌++◌, length, refl, ◌<◌, ◌≤◌, ◌+◌, ◌*◌, ◌-◌, ◌^◌, Bool, true, false, cond, nat_eq, slice_index_or}
+use Rattle.std.proofs.Common.{ap, sym, ◌∙◌, arith}
 use Rattle.std.proofs.lemmas.List.{get_or_past}
 use mathlib.Core.Path.{ap₂}
-use mathlib.Core.Quot.{mk, sound}
+use mathlib.Core.Quot.{sound}
 use Rattle.taylor_step.proofs.Sparse.{row_sum}
 use Rattle.taylor_step.proofs.Turns.{past_rows}
 use Rattle.taylor_step.specs.WholeRun.{strip, past, coefficient}
 use Rattle.fixed_num.specs.Products.{sum_of_products}
 use Rattle.linear_system.specs.StoredSystem.{StoredSystem, StoredRow, row_of, dim_of, stored_number, stored_free, number_in_row, place_of, AreDistinct, IsSystem, IsRow}
 use Rattle.frac_laws.proofs.FractionTerms.{ring, terms}
-use Rattle.taylor_step.proofs.SumForms.{sums_equal, sums_ordered}
-use Rattle.frac_laws.proofs.Sums.{sum_to_add, sum_to_scale, sum_to_zero, sum_to_ext}
+use Rattle.taylor_step.proofs.SumForms.{sums_equal}
+use Rattle.frac_laws.proofs.Sums.{sum_to_add, sum_to_scale, sum_to_zero}
 use Rattle.frac_laws.specs.Fraction.{Fraction, over, whole, ◌+ℚ◌, ◌*ℚ◌}
 use Rattle.frac_laws.specs.Sums.{sum_to}
 use Rattle.frac_laws.proofs.Quotients.{over_is}

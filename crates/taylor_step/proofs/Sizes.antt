@@ -1,6 +1,6 @@
 -- The products of a step fit, where the stored system stands for a tame one: no coefficient outgrows the start.
-use Rattle.std.specs.Prelude.{◌≡◌, ℕ, suc, zero, pos, negsuc, ℤ, ◌+ℤ◌, ◌*ℤ◌, List, [], ◌∷◌, ◌++◌, length, map, refl, ◌<◌, ◌≤◌, ◌+◌, ◌*◌, ◌-◌, ◌^◌, unsigned_abs, slice_index_or, cond, nat_eq, Bool, true, false}
-use Rattle.std.proofs.Common.{ap, sym, ◌∙◌, arith}
+use Rattle.std.specs.Prelude.{◌≡◌, ℕ, suc, zero, pos, ℤ, ◌+ℤ◌, List, [], ◌∷◌, ◌++◌, length, map, refl, ◌+◌, ◌*◌, unsigned_abs, slice_index_or, cond, Bool, true, false}
+use Rattle.std.proofs.Common.{ap, ◌∙◌}
 use Rattle.std.proofs.lemmas.List.{map-append}
 use Rattle.std.proofs.Math.ListN.{length-map}
 use mathlib.Core.Path.{ap₂, fun_ext}
@@ -8,7 +8,7 @@ use Rattle.taylor_step.proofs.Sparse.{row_sum}
 use Rattle.taylor_step.specs.WholeRun.{strip}
 use Rattle.fixed_num.specs.Products.{sum_of_products, sum_of_sizes}
 use Rattle.linear_system.specs.StoredSystem.{StoredRow, number_in_row, place_of, AreDistinct}
-use Rattle.frac_laws.specs.Fraction.{over, whole, ◌*ℚ◌}
+use Rattle.frac_laws.specs.Fraction.{whole, ◌*ℚ◌}
 use Rattle.frac_laws.specs.Sums.{sum_to}
 
 abbrev pub size_of : ℤ → ℤ

@@ -1,18 +1,17 @@
 -- A row's product over its places is the product over all columns.
-use Rattle.std.specs.Prelude.{◌≡◌, ℕ, suc, zero, pos, negsuc, ℤ, ◌+ℤ◌, ◌*ℤ◌, List, [], ◌∷◌, ◌++◌, length, map, take, drop, refl, ◌<◌, ◌≤◌, ◌+◌, ◌*◌, ◌-◌, ◌⊎◌, Bool, true, false, cond, nat_eq, slice_index, slice_index_or}
+use Rattle.std.specs.Prelude.{◌≡◌, ℕ, suc, zero, pos, ℤ, ◌*ℤ◌, List, [], ◌∷◌, ◌++◌, length, map, take, drop, refl, ◌<◌, ◌≤◌, ◌+◌, ◌*◌, ◌⊎◌, Bool, true, false, cond, nat_eq, slice_index_or}
 use Rattle.std.proofs.Common.{ap, sym, ◌∙◌, arith, inl, inr}
 use Rattle.std.proofs.lemmas.List.{length-take, length-drop, get_or-drop, get_or-take}
 use Rattle.std.proofs.lemmas.List.{take-append-drop}
 use mathlib.Core.Path.{ap₂}
-use mathlib.Core.Quot.{mk, sound}
 use Rattle.taylor_step.specs.WholeRun.{strip}
 use Rattle.fixed_num.specs.Products.{sum_of_products}
 use Rattle.linear_system.specs.StoredSystem.{StoredRow, number_in_row, place_of, AreDistinct, also}
 use Rattle.frac_laws.proofs.FractionTerms.{ring, terms}
-use Rattle.taylor_step.proofs.SumForms.{sums_equal, sums_ordered}
-use Rattle.frac_laws.proofs.Sums.{sum_to_zero, sum_to_first, sum_to_ext}
+use Rattle.taylor_step.proofs.SumForms.{sums_equal}
+use Rattle.frac_laws.proofs.Sums.{sum_to_zero, sum_to_first}
 use Rattle.frac_laws.proofs.Quotients.{whole_mul, whole_add}
-use Rattle.frac_laws.specs.Fraction.{Fraction, over, whole, ◌+ℚ◌, ◌*ℚ◌}
+use Rattle.frac_laws.specs.Fraction.{Fraction, whole, ◌+ℚ◌, ◌*ℚ◌}
 use Rattle.frac_laws.specs.Sums.{sum_to}
 
 -- the number held for a column, 0 where it has no place

@@ -1,6 +1,6 @@
 -- What a row's product reads, step after step.
-use Rattle.std.proofs.Common.{◌≡◌, ℕ, suc, zero, ◌^◌, ◌+◌, ◌*◌, ◌-◌, ◌<◌, ◌≤◌, ◌⊎◌, inl, inr, length, get_or, set, map, List, [], ◌∷◌, ◌++◌, take, drop, ℤ, pos, refl, ap, sym, ◌∙◌, arith, append_assoc}
-use Rattle.std.proofs.Math.ListN.{length-map, length-append}
+use Rattle.std.proofs.Common.{◌≡◌, ℕ, suc, zero, ◌+◌, ◌*◌, ◌-◌, ◌<◌, ◌≤◌, length, map, List, [], ◌∷◌, ◌++◌, take, drop, ℤ, pos, refl, ap, sym, ◌∙◌, arith}
+use Rattle.std.proofs.Math.ListN.{length-map}
 use Rattle.taylor_step.proofs.Blocks.{drop-put_at, length-put_at, zeros-length}
 use Rattle.taylor_step.specs.Strips.{put_at, zeros}
 use Rattle.taylor_step.specs.WholeRun.{strip, start_number, only_start, one_on}

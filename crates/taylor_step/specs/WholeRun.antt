@@ -1,5 +1,5 @@
 -- The whole-number run of a step: each new number of a row is the floor of one exact sum.
-use Rattle.std.specs.Prelude.{◌≡◌, ℕ, zero, suc, ◌*◌, ◌^◌, ◌<◌, ◌≤◌, ℤ, pos, ◌+ℤ◌, unsigned_abs}
+use Rattle.std.specs.Prelude.{ℕ, zero, suc, ◌*◌, ◌^◌, ◌<◌, ◌≤◌, ℤ, pos, ◌+ℤ◌, unsigned_abs}
 use Rattle.std.specs.Prelude.{List, [], ◌∷◌, ◌++◌, map, slice_index_or}
 use Rattle.frac_laws.specs.Rounding.{floor_of}
 use Rattle.fixed_num.specs.Products.{sum_of_products, sum_of_sizes}

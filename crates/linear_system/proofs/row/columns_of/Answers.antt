@@ -1,6 +1,6 @@
 use Rattle.std.proofs.Common.{◌≡◌, ◌∙◌, ap, arith, sym, ℕ, Vec, Global}
 use Rattle.linear_system.specs.Setting.{may_hold}
-use Rattle.linear_system.proofs.Columns.{none_taken, taken_one, passed_one, with_free, with_free_places, AreTaken}
+use Rattle.linear_system.proofs.Columns.{none_taken, taken_one, passed_one, with_free, with_free_places}
 use Rattle.linear_system.proofs.row.columns_of.Goals as goal
 use Rattle.linear_system.proofs.row.columns_of.Goals.{then-has_place+in_ok-push, else-has_place}
 

@@ -1,4 +1,4 @@
-use Rattle.std.proofs.Common.{◌≡◌, ◌<◌, ◌≤◌, ◌*◌, ◌+◌, ◌^◌, ℕ, length, pos, get_or, map, []}
+use Rattle.std.proofs.Common.{◌≡◌, ◌<◌, ◌≤◌, ◌*◌, ◌+◌, ◌^◌, ℕ, pos, get_or}
 use Rattle.taylor_step.proofs.run.new_numbers.Given as goal
 use Rattle.taylor_step.specs.Strips.{window, contents}
 use Rattle.fixed_num.specs.Products.{sum_of_products}

@@ -1,5 +1,4 @@
-use Rattle.std.proofs.Common.{◌≡◌, ℕ, suc, pos, [], length, map, arith, get_or, ap, ◌∙◌, sym, ◌*◌, ◌+◌, ◌+ℤ◌, ◌≤◌, ◌<◌, ◌^◌, add-one, refl, Vec, Global, List, ℤ}
-use Rattle.std.specs.Prelude.{unsigned_abs}
+use Rattle.std.proofs.Common.{◌≡◌, ℕ, suc, pos, length, arith, get_or, ◌∙◌, sym, ◌+ℤ◌, add-one, refl, List, ℤ}
 use mathlib.Core.Path.{ap₂}
 use Rattle.taylor_step.proofs.Turns.{new_is, new_small, history_more, sums_small}
 use Rattle.taylor_step.proofs.run.run.Goals as goal

@@ -1,4 +1,4 @@
-use Rattle.std.proofs.Common.{◌≡◌, ◌<◌, ◌≤◌, ◌*◌, ◌+◌, ◌^◌, ℕ, length, pos, get_or, map, []}
+use Rattle.std.proofs.Common.{◌≡◌, ◌<◌, ◌≤◌, ◌*◌, ◌+◌, ◌^◌, ℕ, pos, get_or}
 use Rattle.std.specs.Prelude.{unsigned_abs}
 use Rattle.taylor_step.proofs.run.run.Given as goal
 use Rattle.taylor_step.specs.Strips.{HasRoom, IsHistory, contents}

@@ -1,4 +1,3 @@
-use Rattle.std.proofs.Common.{map}
 use Rattle.taylor_step.proofs.Turns.{history_start}
 use Rattle.taylor_step.proofs.strips.begin.Goals as goal
 use Rattle.taylor_step.specs.Strips.{contents}

@@ -1,9 +1,8 @@
-use Rattle.std.proofs.Common.{rules, ◌≡◌, ℕ, ◌^◌, ◌+◌, ◌-◌, ◌*◌, ◌<◌, ◌≤◌, ◌+ℤ◌, ℤ, pos, length, map, take, drop, FitsSigned, get_or, sym, to_z, of_z}
+use Rattle.std.proofs.Common.{rules, pos, FitsSigned, get_or, sym}
 use Rattle.std.proofs.lemmas.Int.{to_z-of_z}
 use mir.Syntax.{w128}
 use Rattle.taylor_step.proofs.Blocks.{put_at-nothing, one_more_put}
 use Rattle.taylor_step.proofs.strips.write_block.Goals as goal
-use Rattle.taylor_step.specs.WholeRun.{strip}
 
 pub loop-p-init : goal.loop-p-init
 loop-p-init c = sym (put_at-nothing c.args.strip.now c.args.at)

@@ -1,7 +1,6 @@
-use Rattle.std.proofs.Common.{ℕ, pos, [], length, map, arith, get_or, ap, ◌∙◌, ◌*◌}
+use Rattle.std.proofs.Common.{pos, length, map, arith, get_or, ap, ◌∙◌, ◌*◌}
 use Rattle.taylor_step.proofs.Rows.{strip_is, row_written, block_room}
 use Rattle.taylor_step.proofs.strips.write_blocks.Goals as goal
-use Rattle.taylor_step.specs.WholeRun.{strip}
 use Rattle.linear_system.specs.StoredSystem.{row_of, dim_of}
 
 pub write_block-requires-clause-room : goal.write_block-requires-clause-room

@@ -1,4 +1,4 @@
-use Rattle.std.proofs.Common.{◌≡◌, ◌<◌, ◌≤◌, ℕ, pos, get_or}
+use Rattle.std.proofs.Common.{◌≡◌, ◌<◌, ℕ, pos, get_or}
 use Rattle.taylor_step.proofs.strips.write_start.Given as goal
 
 abbrev pub invariant-loop-i : goal.invariant-loop-i

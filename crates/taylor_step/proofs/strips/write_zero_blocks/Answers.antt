@@ -1,9 +1,8 @@
-use Rattle.std.proofs.Common.{◌≡◌, ℕ, pos, [], length, map, arith, get_or, ap, ◌∙◌, ◌*◌}
+use Rattle.std.proofs.Common.{length, arith, ap, ◌∙◌, ◌*◌}
 use mathlib.Core.Path.{ap₂}
 use Rattle.taylor_step.proofs.Rows.{strip_is, row_written, zeros_room}
 use Rattle.taylor_step.proofs.strips.write_zero_blocks.Goals as goal
 use Rattle.taylor_step.specs.Strips.{zeros}
-use Rattle.taylor_step.specs.WholeRun.{strip}
 use Rattle.linear_system.specs.StoredSystem.{row_of, dim_of}
 
 pub write_zeros-requires : goal.write_zeros-requires

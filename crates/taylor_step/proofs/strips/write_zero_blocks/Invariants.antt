@@ -1,4 +1,4 @@
-use Rattle.std.proofs.Common.{map, length, ◌*◌}
+use Rattle.std.proofs.Common.{length, ◌*◌}
 use Rattle.taylor_step.proofs.Rows.{Shifted}
 use Rattle.taylor_step.proofs.strips.write_zero_blocks.Given as goal
 use Rattle.taylor_step.specs.Strips.{zeros, contents}

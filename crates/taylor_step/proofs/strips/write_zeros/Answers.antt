@@ -1,7 +1,6 @@
 use Rattle.std.proofs.Common.{sym, arith, ◌+◌, ◌<◌, length}
 use Rattle.taylor_step.proofs.Blocks.{put_at-nothing, one_more_zero}
 use Rattle.taylor_step.proofs.strips.write_zeros.Goals as goal
-use Rattle.taylor_step.specs.WholeRun.{strip}
 
 pub loop-p-init : goal.loop-p-init
 loop-p-init c = sym (put_at-nothing c.args.strip.now c.args.at)

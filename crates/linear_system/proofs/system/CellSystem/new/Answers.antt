@@ -1,5 +1,5 @@
-use Rattle.std.proofs.Common.{ℕ, ◌+◌, ◌*◌, length, arith, ◌≡◌, ◌∙◌}
-use Rattle.linear_system.proofs.Rows.{AreRows, push_row, zero_row, zero_system}
+use Rattle.std.proofs.Common.{ℕ, ◌+◌, ◌*◌, length, arith, ◌≡◌}
+use Rattle.linear_system.proofs.Rows.{push_row, zero_row, zero_system}
 use Rattle.linear_system.proofs.system.CellSystem.new.Goals as goal
 
 swapped : (n m : ℕ) → n * (m + 1) ≡ (m + 1) * n

@@ -1,7 +1,6 @@
-use Rattle.std.proofs.Common.{arith, ◌≡◌, ◌∙◌, ap, sym, length, ◌+◌, ◌*◌, rules}
-use Rattle.taylor_step.proofs.Rows.{AreStrips, no_strips, AreStrips-push}
+use Rattle.std.proofs.Common.{arith, ◌≡◌, ◌∙◌, length, ◌+◌, ◌*◌}
+use Rattle.taylor_step.proofs.Rows.{no_strips, AreStrips-push}
 use Rattle.taylor_step.proofs.work.Work.new.Goals as goal
-use Rattle.taylor_step.specs.WholeRun.{strip}
 
 pub loop-row-init : goal.loop-row-init
 loop-row-init c = rw c.new-strips.ensures.items (no_strips _)
