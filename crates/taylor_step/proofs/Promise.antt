@@ -1,7 +1,7 @@
 -- The promise of a step in one norm: what a stored system gives is near what each system gives that it stands
 -- for.
-use Rattle.std.specs.Prelude.{◌≡◌, ℕ, pos, ℤ, List, length, ◌<◌, ◌≤◌}
-use Rattle.std.proofs.Common.{ap, sym, ◌∙◌, subst, arith}
+use Rattle.std.specs.Prelude.{◌≡◌, ℕ, ℤ, List, length, ◌<◌, ◌≤◌}
+use Rattle.std.proofs.Common.{sym, ◌∙◌}
 use mathlib.Core.Path.{ap₂}
 use Rattle.frac_laws.specs.Fraction.{Fraction, ◌+ℚ◌}
 use Rattle.frac_laws.specs.Norms.{Norm, Sup, Sum}
@@ -10,7 +10,7 @@ use Rattle.cell_laws.specs.Tame.{IsTame}
 use Rattle.linear_system.specs.StoredSystem.{StoredSystem, IsSystem, dim_of, stored_number, stored_free}
 use Rattle.linear_system.specs.StandsFor.{StandsFor}
 use Rattle.step_laws.specs.StandsFor.{StandsFor as SystemStandsFor}
-use Rattle.step_laws.specs.RoundedRuns.{unrounded as exact_sum, IsRoundedStep}
+use Rattle.step_laws.specs.RoundedRuns.{unrounded as exact_sum}
 use Rattle.step_laws.specs.StepLaws.{most_numbers}
 use Rattle.step_laws.proofs.Steps.{steps_stay_within_their_radius}
 use Rattle.taylor_step.specs.RoundedRun.{IsRoundedValue, unrounded}

@@ -10,7 +10,6 @@ use Rattle.frac_laws.proofs.FractionTerms.{ring, terms}
 use Rattle.frac_laws.proofs.Linear.{linear, claims, natural, ◌⊞◌}
 use Rattle.frac_laws.proofs.Sums.{sum_to_add, sum_to_split, sum_to_zeros}
 use Rattle.cell_laws.specs.Pairs.{CoupledPair}
-use Rattle.cell_laws.specs.Recurrence.{convolved}
 use Rattle.cell_laws.specs.Tame.{IsTamePair}
 use Rattle.linear_system.specs.StoredSystem.{StoredSystem, IsSystem, dim_of, stored_number, stored_free}
 use Rattle.linear_system.specs.StandsFor.{units, StandsForPair, block_from}

@@ -6,7 +6,7 @@ use mathlib.Core.Path.{ap₂}
 use mathlib.Core.Quot.{sound}
 use Rattle.frac_laws.specs.Fraction.{Fraction, whole, ◌+ℚ◌, ◌*ℚ◌, ◌-ℚ◌, ◌≤ℚ◌, ◌<ℚ◌}
 use Rattle.frac_laws.specs.Sums.{sum_to}
-use Rattle.frac_laws.specs.Lists.{Vector, SameNumbers, number_at, vector_at, matrix_at, image, dot}
+use Rattle.frac_laws.specs.Lists.{SameNumbers, number_at, vector_at, matrix_at, image, dot}
 use Rattle.frac_laws.proofs.FractionTerms.{ring, terms}
 use Rattle.frac_laws.proofs.Linear.{linear, linear_lt, claims}
 use Rattle.frac_laws.proofs.Sums.{sum_to_zeros}

@@ -1,12 +1,12 @@
 -- Whole numbers of units as vectors, matrices and systems of fractions.
 use Rattle.std.specs.Prelude.{◌≡◌, ℕ, pos, ℤ, List, [], length, map, ◌<◌, ◌≤◌, ◌^◌, slice_index_or}
 use Rattle.std.specs.List.{range_with_len}
-use Rattle.std.proofs.Common.{refl, ap, sym, ◌∙◌, subst, inl, inr, arith}
+use Rattle.std.proofs.Common.{ap, sym, ◌∙◌, subst, inl, inr, arith}
 use Rattle.std.proofs.lemmas.Bool.{cases_lt}
 use Rattle.std.proofs.lemmas.List.{get_or_past, get_or-map}
 use Rattle.std.proofs.lemmas.List.FromFn.{get_or-map-range_with_len, length-map-range_with_len}
 use Rattle.std.proofs.Math.ListN.{length-map}
-use Rattle.frac_laws.specs.Fraction.{Fraction, whole, ◌-ℚ◌, ◌≤ℚ◌, size}
+use Rattle.frac_laws.specs.Fraction.{whole, ◌-ℚ◌, ◌≤ℚ◌, size}
 use Rattle.frac_laws.specs.Lists.{Vector, Matrix, number_at, vector_at, matrix_at}
 use Rattle.frac_laws.proofs.Linear.{natural}
 use Rattle.cell_laws.specs.Systems.{System}
