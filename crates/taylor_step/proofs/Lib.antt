@@ -3,6 +3,10 @@ pub mod Fits
 pub mod FitsByRows
 pub mod FitsBySums
 pub mod Floors
+pub mod Promise
+pub mod PromisePair
+pub mod PromiseRuns
+pub mod PromiseVectors
 pub mod RowProducts
 pub mod Rows
 pub mod Scaled

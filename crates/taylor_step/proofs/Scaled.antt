@@ -58,7 +58,7 @@ pub free-later : (s : StoredSystem) (mid : List ℤ) (k : ℕ) → coefficient s
 unfolding past
 free-later s mid k = past_rows s (past s mid k) k
 
-beyond : (r : StoredRow) (top j m : ℕ) → length r.numbers ≡ (top + 1) * length r.columns → top + 1 ≤ m → number_in_row r j m ≡ pos 0
+pub beyond : (r : StoredRow) (top j m : ℕ) → length r.numbers ≡ (top + 1) * length r.columns → top + 1 ≤ m → number_in_row r j m ≡ pos 0
 beyond r top j m l h = cases (nat_eq (place_of r.columns j) (length r.columns)) (get_or_past r.numbers (m * length r.columns + place_of r.columns j) (pos 0) (far top m (length r.columns) _ _ l h))
   where
     far : (top m w p n : ℕ) → n ≡ (top + 1) * w → top + 1 ≤ m → n ≤ m * w + p

@@ -1,9 +1,11 @@
 -- What the words and the told file lead to is one thing only.
-use Rattle.std.proofs.Common.{◌≡◌, ℕ, ◌≤◌, ◌<◌, List, length, Option, Some, None, IsSome, ◌⊎◌, inl, inr, sym, ◌∙◌, arith, refl}
+use Rattle.std.proofs.Common.{◌≡◌, ℕ, ◌≤◌, ◌<◌, List, length, Option, Some, None, IsSome, ◌⊎◌, inl}
+use Rattle.std.proofs.Common.{inr, sym, ◌∙◌, arith, refl}
 use Rattle.io_ports.specs.Files.{file_of}
 use Rattle.product_reader.specs.FlatFile.{HasFlat, IsNotToml, IsNotFlat}
 use Rattle.product_reader.specs.FlatTree.{FlatProduct}
-use Rattle.product_reader.proofs.FlatFiles.{not_toml_has_no_product, not_toml_excludes_not_flat, not_flat_has_no_product}
+use Rattle.product_reader.proofs.FlatFiles.{not_toml_has_no_product, not_toml_excludes_not_flat}
+use Rattle.product_reader.proofs.FlatFiles.{not_flat_has_no_product}
 use Rattle.thiele_cli.specs.Words.{AsksValue, AskForValue}
 use Rattle.thiele_cli.specs.Causes.{Files, NamesFile, IsLong, NameLongFile}
 
@@ -50,24 +52,28 @@ pub data IsCase (files : Files) (words : List (List ℕ)) (c : Case) : Type 0 wh
   by_length : c ≡ too_long → NameLongFile files words → IsCase files words c
   by_file : (bytes : List ℕ) → NamesFile files words bytes → IsFileCase bytes c → IsCase files words c
 
-same_name : (words : List (List ℕ)) (name other : List ℕ) → AsksValue words name → AsksValue words other → name ≡ other
+same_name : (words : List (List ℕ)) (name other : List ℕ) → AsksValue words name → AsksValue words other
+    → name ≡ other
 same_name words name other a b = cc (a.are, b.are)
 
 -- two files that the words name are one
-same_bytes : (files : List (List ℕ × List ℕ)) (words : List (List ℕ)) (bytes other : List ℕ) → NamesFile (Some files) words bytes → NamesFile (Some files) words other → bytes ≡ other
+same_bytes : (files : List (List ℕ × List ℕ)) (words : List (List ℕ)) (bytes other : List ℕ)
+    → NamesFile (Some files) words bytes → NamesFile (Some files) words other → bytes ≡ other
 same_bytes files words bytes other a b =
     let names = same_name words a.name b.name a.asked b.asked in
     let there = rw names at a.told in
     cc (there, b.told)
 
 -- a named file of the wanted length is not longer
-not_long : (files : List (List ℕ × List ℕ)) (words : List (List ℕ)) (bytes : List ℕ) → NamesFile (Some files) words bytes → NameLongFile (Some files) words → ⊥
+not_long : (files : List (List ℕ × List ℕ)) (words : List (List ℕ)) (bytes : List ℕ)
+    → NamesFile (Some files) words bytes → NameLongFile (Some files) words → ⊥
 not_long files words bytes file long =
     let names = same_name words long.0 file.name long.1 file.asked in
     let there = rw (names, file.told) at long.2 in
     omega (arith, there, file.short)
 
-told_case : (files : List (List ℕ × List ℕ)) (words : List (List ℕ)) (a b : Case) → IsCase (Some files) words a → IsCase (Some files) words b → a ≡ b
+told_case : (files : List (List ℕ × List ℕ)) (words : List (List ℕ)) (a b : Case)
+    → IsCase (Some files) words a → IsCase (Some files) words b → a ≡ b
 told_case files words a b (by_words e x) (by_words f y) = e ∙ sym f
 told_case files words a b (by_length e x) (by_length f y) = e ∙ sym f
 told_case files words a b (by_words e x) (by_length f y) = absurd (x (y.0, y.1))
@@ -81,6 +87,7 @@ told_case files words a b (by_file bytes file x) (by_file other file2 y) =
     one_file_case other a b (rw same at x) y
 
 -- words over told files are of one case
-pub one_case : (files : Files) (words : List (List ℕ)) (a b : Case) → IsSome files → IsCase files words a → IsCase files words b → a ≡ b
+pub one_case : (files : Files) (words : List (List ℕ)) (a b : Case) → IsSome files → IsCase files words a
+    → IsCase files words b → a ≡ b
 one_case None words a b told x y = cc
 one_case (Some files) words a b told x y = told_case files words a b x y

@@ -1,24 +1,37 @@
 -- From the answer of a shelf and the bytes of a file to the answer of a run.
-use Rattle.std.proofs.Common.{◌≡◌, ℕ, zero, suc, ◌≤◌, ℤ, pos, negsuc, List, length, codes, Option, Some, None, Ok, Err, Vec, Global, ◌⊎◌, inl, inr, refl}
+use Rattle.std.proofs.Common.{◌≡◌, ℕ, zero, suc, ◌≤◌, ℤ, pos, negsuc, List, length, codes, Option, Some}
+use Rattle.std.proofs.Common.{None, Ok, Err, Vec, Global, ◌⊎◌, inl, inr, refl}
 use Rattle.io_ports.specs.Files.{AnswersFrom}
 use Rattle.product_reader.specs.FlatFile.{HasFlat}
 use Rattle.product_reader.specs.FlatTree.{FlatProduct}
 use Rattle.thiele_cli.specs.declared.end.End.{End}
-use Rattle.thiele_cli.specs.declared.end.End.TheVariants.{Done, NotBuilt, FetchFault, TooLong, NotToml, WriteFault, Memory}
+use Rattle.thiele_cli.specs.declared.end.End.TheVariants.{Done, NotBuilt, FetchFault, TooLong, NotToml}
+use Rattle.thiele_cli.specs.declared.end.End.TheVariants.{WriteFault, Memory}
 use Rattle.thiele_cli.specs.declared.report.Report.{Report}
 use Rattle.thiele_cli.specs.Words.{AsksValue}
 use Rattle.thiele_cli.specs.Causes.{Files, AreTold}
 use Rattle.thiele_cli.specs.Outcome.{IsReportOf, Refuses, Settles, SettlesFile}
 
 -- the bytes that a shelf gave are those that it tells
-pub told : (files : Files) (name : List ℕ) (most : ℕ) (bytes : Vec ℕ Global) → AnswersFrom files name most (Ok bytes) → AreTold files name bytes.items
+pub told : (files : Files) (name : List ℕ) (most : ℕ) (bytes : Vec ℕ Global)
+    → AnswersFrom files name most (Ok bytes) → AreTold files name bytes.items
 told None name most bytes answer = tt
 told (Some files) name most bytes answer = answer
 
 -- what a file leads to is what the words that name it lead to
-pub settles_file : (files : Files) (words : List (List ℕ)) (name bytes : List ℕ) → AsksValue words name → AreTold files name bytes → length bytes ≤ 1048576 → (end : End) (report : Option Report) (text : List ℕ) → SettlesFile bytes end report text → Settles files words end report text
-settles_file files words name bytes asked here short Done report text a =
-    (a.0, record { bytes = bytes; file = record { name = name; asked = asked; told = here; short = short }; flat = a.1 }, a.2)
+pub settles_file : (files : Files) (words : List (List ℕ)) (name bytes : List ℕ) → AsksValue words name
+    → AreTold files name bytes → length bytes ≤ 1048576
+    → (end : End) (report : Option Report) (text : List ℕ) → SettlesFile bytes end report text
+    → Settles files words end report text
+settles_file files words name bytes asked here short Done report text a = (
+  a.0,
+  record {
+    bytes = bytes;
+    file = record { name = name; asked = asked; told = here; short = short };
+    flat = a.1;
+  },
+  a.2,
+)
 settles_file files words name bytes asked here short NotBuilt report text a =
     (inr (bytes, record { name = name; asked = asked; told = here; short = short }, a.0), a.1)
 settles_file files words name bytes asked here short NotToml report text a =

@@ -46,8 +46,10 @@ pub record NameValued (files : Files) (words : List (List ℕ)) (p : FlatProduct
 abbrev pub NameUnbuilt : Files → List (List ℕ) → Type 0
 NameUnbuilt files words = ¬ AskForValue words ⊎ ((bytes : List ℕ) × NamesFile files words bytes × IsNotFlat bytes)
 
--- the end comes only by its cause; and where the files are told and no fetch failed, the cause leads to no other end than
--- want of memory and a fault of the sink
-pub record ComesBy (files : Files) (failed_before failed_now : List (List ℕ)) (end own : End) (Cause : Type 0) : Type 0 where
+-- the end comes only by its cause; and where the files are told and no fetch failed, the cause leads to no other
+-- end than want of memory and a fault of the sink
+pub record ComesBy (files : Files) (failed_before failed_now : List (List ℕ)) (end own : End) (Cause : Type 0)
+    : Type 0 where
   pub only : end ≡ own → Cause
-  pub always : IsSome files → failed_now ≡ failed_before → Cause → (end ≡ own) ⊎ (end ≡ Memory) ⊎ (end ≡ WriteFault)
+  pub always : IsSome files → failed_now ≡ failed_before → Cause
+      → (end ≡ own) ⊎ (end ≡ Memory) ⊎ (end ≡ WriteFault)

@@ -14,7 +14,8 @@ size_below_zero (negsuc n) = suc n
 abbrev pub phi40 : FlatProduct → ℕ
 phi40 p = div_ceil (2 ^ 40 * (6 * nat_abs p.interest)) (768 * nat_abs p.den)
 
--- the growth of a cell in units of 2^-40: ceil(9 phi40^2 / 2^44) + ceil(2^40 nu / 192), where nu is minus a negative interest
+-- the growth of a cell in units of 2^-40: ceil(9 phi40^2 / 2^44) + ceil(2^40 nu / 192), where nu is how far the
+-- yearly interest is below 0
 abbrev pub kappa40 : FlatProduct → ℕ
 kappa40 p = div_ceil (9 * phi40 p ^ 2) (2 ^ 44) + div_ceil (2 ^ 40 * size_below_zero p.interest) (192 * nat_abs p.den)
 

@@ -1,6 +1,6 @@
--- The value of a contract with one state, exactly: Thiele's equation by Taylor steps, cell by cell, from the term to issue.
--- A year has 384 cells. In a cell the equation, read into the past from the cell's end, is w' = -r w + b, where r is the
--- force of interest and b the payment, both over a cell (Hoem 1969; Dickson, Hardy and Waters).
+-- The value of a contract with one state, exactly: Thiele's equation by Taylor steps, cell by cell, from the term to
+-- issue. A year has 384 cells. In a cell the equation, read into the past from the cell's end, is w' = -r w + b, where
+-- r is the force of interest and b the payment, both over a cell (Hoem 1969; Dickson, Hardy and Waters).
 use Rattle.std.specs.Prelude.{ℕ, zero, suc, ◌*◌, pos, nat_abs}
 use Rattle.frac_laws.specs.Fraction.{Fraction, whole, over, ◌+ℚ◌, ◌*ℚ◌, opposite}
 use Rattle.frac_laws.specs.Sums.{sum_to}
@@ -22,7 +22,8 @@ payment_at p (suc k) = whole (pos 0)
 -- the Taylor coefficients over a cell, from the value at its end: (k + 1) w_(k+1) = -r w_k + b_k
 abbrev pub coefficient : FlatProduct → Fraction → ℕ → Fraction
 coefficient p end zero = end
-coefficient p end (suc k) = over (pos 1) (suc k) *ℚ (opposite (cell_interest p) *ℚ coefficient p end k +ℚ payment_at p k)
+coefficient p end (suc k) =
+    over (pos 1) (suc k) *ℚ (opposite (cell_interest p) *ℚ coefficient p end k +ℚ payment_at p k)
 
 -- the Taylor value of degree n: the sum of the coefficients 0 to n
 abbrev pub taylor_value : FlatProduct → Fraction → ℕ → Fraction

@@ -1,11 +1,13 @@
 -- What a run writes, end by end.
-use Rattle.std.specs.Prelude.{◌≡◌, ℕ, ◌<◌, List, [], ◌∷◌, ◌++◌, codes, decimal, length, Option, None, IsSomeAnd}
+use Rattle.std.specs.Prelude.{◌≡◌, ℕ, ◌<◌, List, [], ◌∷◌, ◌++◌, codes, decimal, length, Option, None}
+use Rattle.std.specs.Prelude.{IsSomeAnd}
 use Rattle.std.specs.Io.KnownBytes.{Appends}
 use Rattle.io_ports.specs.Growth.{AppendsPrefix}
 use Rattle.product_reader.specs.FlatFile.{HasFlat, IsNotToml, IsNotFlat}
 use Rattle.product_reader.specs.FlatTree.{FlatProduct}
 use Rattle.thiele_cli.specs.declared.end.End.{End}
-use Rattle.thiele_cli.specs.declared.end.End.TheVariants.{Done, NotBuilt, FetchFault, TooLong, NotToml, WriteFault, Memory}
+use Rattle.thiele_cli.specs.declared.end.End.TheVariants.{Done, NotBuilt, FetchFault, TooLong, NotToml}
+use Rattle.thiele_cli.specs.declared.end.End.TheVariants.{WriteFault, Memory}
 use Rattle.thiele_cli.specs.declared.report.Report.{Report}
 use Rattle.thiele_cli.specs.Words.{AskForValue}
 use Rattle.thiele_cli.specs.Causes.{Files, NameValued, NameUnbuilt, NameLongFile, NameNoToml}
@@ -39,7 +41,8 @@ abbrev pub Settles : Files → List (List ℕ) → End → Option Report → Lis
 Settles files words Done report text = Reports files words report text
 Settles files words NotBuilt report text = NameUnbuilt files words × Refuses report text (codes "refused unbuilt\n")
 Settles files words (TooLong seen) report text =
-    (seen ≡ 1048577) × NameLongFile files words × Refuses report text (codes "refused length " ++ decimal seen ++ codes "\n")
+    (seen ≡ 1048577) × NameLongFile files words
+    × Refuses report text (codes "refused length " ++ decimal seen ++ codes "\n")
 Settles files words NotToml report text = NameNoToml files words × Refuses report text (codes "refused toml\n")
 Settles files words FetchFault report text = AskForValue words × Refuses report text []
 Settles files words WriteFault report text = ⊥
@@ -57,7 +60,8 @@ SettlesFile bytes WriteFault report text = ⊥
 SettlesFile bytes Memory report text = ⊥
 
 -- a text with this end and report was to be written, and told bytes grew by a prefix of it
-pub record WritesPrefix (files : Files) (words : List (List ℕ)) (report : Option Report) (old new : Option (List ℕ)) : Type 0 where
+pub record WritesPrefix (files : Files) (words : List (List ℕ)) (report : Option Report) (old new : Option (List ℕ))
+    : Type 0 where
   pub planned : End
   pub text : List ℕ
   pub not_empty : 0 < length text
@@ -65,7 +69,8 @@ pub record WritesPrefix (files : Files) (words : List (List ℕ)) (report : Opti
   pub grew : AppendsPrefix old new text
 
 -- told bytes grew by the text of this end and report
-abbrev pub WritesAll : Files → List (List ℕ) → End → Option Report → Option (List ℕ) → Option (List ℕ) → Type 0
+abbrev pub WritesAll : Files → List (List ℕ) → End → Option Report → Option (List ℕ) → Option (List ℕ)
+    → Type 0
 WritesAll files words end report old new = (text : List ℕ) × Settles files words end report text × Appends old new text
 
 -- what was written: a prefix after a fault of the sink, else the whole text

@@ -15,7 +15,8 @@ pub record Encloses (p : FlatProduct) (from_degree : ℕ) (lo hi : ℤ) : Type 0
   pub low : (n : ℕ) → from_degree ≤ n → whole lo ≤ℚ whole (pos (10 ^ 6)) *ℚ value_at_issue p n
   pub high : (n : ℕ) → from_degree ≤ n → whole (pos (10 ^ 6)) *ℚ value_at_issue p n ≤ℚ whole hi
 
--- the ends, in millionths, of a midpoint less and plus its radius, both in units of 2^-64 at the scale 2^g: rounded outward
+-- the ends, in millionths, of a midpoint less and plus its radius, both in units of 2^-64 at the scale 2^g: rounded
+-- outward
 pub record AreEnds (mid : ℤ) (radius g : ℕ) (lo hi : ℤ) : Type 0 where
   pub low : lo ≡ floor_of ((mid -ℤ pos radius) *ℤ pos (2 ^ g * 10 ^ 6)) (pos (2 ^ 64))
   pub high : hi ≡ ceiling_of ((mid +ℤ pos radius) *ℤ pos (2 ^ g * 10 ^ 6)) (pos (2 ^ 64))

@@ -1,5 +1,6 @@
 -- The text of a report, this product's own. Each line ends with a line feed, and fields are parted by one space.
-use Rattle.std.specs.Prelude.{ℕ, suc, ◌+◌, ◌/◌, ◌%◌, ℤ, pos, negsuc, List, [], ◌∷◌, ◌++◌, codes, decimal, length}
+use Rattle.std.specs.Prelude.{ℕ, suc, ◌+◌, ◌/◌, ◌%◌, ℤ, pos, negsuc, List, [], ◌∷◌, ◌++◌, codes, decimal}
+use Rattle.std.specs.Prelude.{length}
 use Rattle.product_reader.specs.FlatTree.{FlatProduct}
 use Rattle.thiele_cli.specs.declared.report.Kind.{Kind}
 use Rattle.thiele_cli.specs.declared.report.Kind.TheVariants as kind
@@ -15,7 +16,8 @@ digit n power = 48 + n / power % 10
 -- a number of millionths that is not negative: the whole part, a point and six digits
 abbrev pub millionths_of_size : ℕ → List ℕ
 millionths_of_size n =
-    decimal (n / 1000000) ++ 46 ∷ digit n 100000 ∷ digit n 10000 ∷ digit n 1000 ∷ digit n 100 ∷ digit n 10 ∷ digit n 1 ∷ []
+    decimal (n / 1000000) ++ 46 ∷ digit n 100000 ∷ digit n 10000 ∷ digit n 1000 ∷ digit n 100 ∷ digit n 10
+    ∷ digit n 1 ∷ []
 
 -- a number of millionths, with a minus sign below 0
 abbrev pub millionths : ℤ → List ℕ
@@ -58,4 +60,5 @@ head_lines p r =
 -- the whole text: the first two lines, the rows, and their number
 abbrev pub report_text : FlatProduct → Report → List ℕ
 report_text p r =
-    head_lines p r ++ row_lines p r.rows.items r.tolerance.items ++ codes "end " ++ decimal (length r.rows.items) ++ codes "\n"
+    head_lines p r ++ row_lines p r.rows.items r.tolerance.items ++ codes "end " ++ decimal (length r.rows.items)
+    ++ codes "\n"

@@ -97,8 +97,10 @@ pub fn plan_words<H: Shelf>(
     words: &[String],
     shelf: &mut H,
 ) -> Result<Plan, AllocError>
-    ensures settles { IfOk result (λ plan. Settles (H.files shelf.old) (words_of words.now) plan.end plan.report plan.text.items) }
-    ensures failed { IfOk result (λ plan. H.failed shelf.new ≡ H.failed shelf.old ++ failed_name plan.end (words_of words.now)) }
+    ensures settles { IfOk result (λ plan.
+        Settles (H.files shelf.old) (words_of words.now) plan.end plan.report plan.text.items) }
+    ensures failed { IfOk result (λ plan.
+        H.failed shelf.new ≡ H.failed shelf.old ++ failed_name plan.end (words_of words.now)) }
     ensures memory { OnErr result (H.failed shelf.new ≡ H.failed shelf.old) }
     ensures files { H.files shelf.new ≡ H.files shelf.old }
 {

@@ -1,7 +1,8 @@
 // The text of a report.
 ghost use Rattle.std.specs.Prelude.{◌≡◌, ◌++◌, length, OnOk, IfOk};
 ghost use Rattle.product_reader.specs.Flat.{product_of};
-ghost use Rattle.thiele_cli.specs.Text.{kind_word, what_word, row_subject, row_interval, row_line, row_lines, head_lines, report_text};
+ghost use Rattle.thiele_cli.specs.Text.{kind_word, what_word, row_subject, row_interval, row_line};
+ghost use Rattle.thiele_cli.specs.Text.{row_lines, head_lines, report_text};
 
 use crate::decimal::{push_decimal, push_millionths, push_size};
 use crate::report::{Kind, Report, Row, What};

@@ -12,8 +12,8 @@ use crate::plan::plan_words;
 use io_ports::{Shelf, Sink};
 use std::alloc::Global;
 
-/// The top call: reads the words, fetches and reads the file that they name, values it, and writes the report or the line
-/// that refuses it. All memory is taken before the first byte is written.
+/// The top call: reads the words, fetches and reads the file that they name, values it, and writes the report or the
+/// line that refuses it. All memory is taken before the first byte is written.
 pub fn run<H: Shelf, K: Sink>(
     alloc: Global,
     words: &[String],
@@ -23,14 +23,21 @@ pub fn run<H: Shelf, K: Sink>(
     ensures status { result.status ≡ status_of result.end }
 
     // What was written, and that the report is right: the headline.
-    ensures written { Writes (H.files shelf.old) (words_of words.now) result.end result.report (K.written sink.old) (K.written sink.new) }
+    ensures written { Writes (H.files shelf.old) (words_of words.now) result.end result.report
+        (K.written sink.old) (K.written sink.new) }
 
     // When each end comes, and that it comes wherever its cause is known.
-    ensures done { ComesBy (H.files shelf.old) (H.failed shelf.old) (H.failed shelf.new) result.end End.Done ((p : FlatProduct) × NameValued (H.files shelf.old) (words_of words.now) p) }
-    ensures not_built { ComesBy (H.files shelf.old) (H.failed shelf.old) (H.failed shelf.new) result.end End.NotBuilt (NameUnbuilt (H.files shelf.old) (words_of words.now)) }
-    ensures not_toml { ComesBy (H.files shelf.old) (H.failed shelf.old) (H.failed shelf.new) result.end End.NotToml (NameNoToml (H.files shelf.old) (words_of words.now)) }
-    ensures too_long { (seen : ℕ) → ComesBy (H.files shelf.old) (H.failed shelf.old) (H.failed shelf.new) result.end (End.TooLong seen) ((seen ≡ 1048577) × NameLongFile (H.files shelf.old) (words_of words.now)) }
-    ensures no_words { ¬ AskForValue (words_of words.now) → (result.end ≡ End.NotBuilt) ⊎ (result.end ≡ End.Memory) ⊎ (result.end ≡ End.WriteFault) }
+    ensures done { ComesBy (H.files shelf.old) (H.failed shelf.old) (H.failed shelf.new) result.end End.Done
+        ((p : FlatProduct) × NameValued (H.files shelf.old) (words_of words.now) p) }
+    ensures not_built { ComesBy (H.files shelf.old) (H.failed shelf.old) (H.failed shelf.new) result.end End.NotBuilt
+        (NameUnbuilt (H.files shelf.old) (words_of words.now)) }
+    ensures not_toml { ComesBy (H.files shelf.old) (H.failed shelf.old) (H.failed shelf.new) result.end End.NotToml
+        (NameNoToml (H.files shelf.old) (words_of words.now)) }
+    ensures too_long { (seen : ℕ) →
+        ComesBy (H.files shelf.old) (H.failed shelf.old) (H.failed shelf.new) result.end (End.TooLong seen)
+        ((seen ≡ 1048577) × NameLongFile (H.files shelf.old) (words_of words.now)) }
+    ensures no_words { ¬ AskForValue (words_of words.now) →
+        (result.end ≡ End.NotBuilt) ⊎ (result.end ≡ End.Memory) ⊎ (result.end ≡ End.WriteFault) }
 
     // A fetch fault comes exactly where the list of failed names grew, and it grew by the word FILE.
     ensures failed { H.failed shelf.new ≡ H.failed shelf.old ++ failed_name result.end (words_of words.now) }
@@ -39,9 +46,13 @@ pub fn run<H: Shelf, K: Sink>(
     ensures write_fault { result.end ≡ End.WriteFault → Rose (K.faults sink.old) (K.faults sink.new) }
     ensures no_write_fault { result.end ≢ End.WriteFault → K.faults sink.new ≡ K.faults sink.old }
 
-    // A file that is valued, told and fetched without a fault is reported, but for want of memory.
-    ensures reported { (p : FlatProduct) → NameValued (H.files shelf.old) (words_of words.now) p → IsSome (H.files shelf.old) → result.end ≡ End.WriteFault → IsSome result.report }
-    ensures complete { (p : FlatProduct) → NameValued (H.files shelf.old) (words_of words.now) p → IsSome (H.files shelf.old) → H.failed shelf.new ≡ H.failed shelf.old → ¬ Rose (K.faults sink.old) (K.faults sink.new) → (result.end ≡ End.Done) ⊎ (result.end ≡ End.Memory) }
+    // A valued file that is told has a report, and with no fault it is written, but for want of memory.
+    ensures reported { (p : FlatProduct) → NameValued (H.files shelf.old) (words_of words.now) p →
+        IsSome (H.files shelf.old) → result.end ≡ End.WriteFault → IsSome result.report }
+    ensures complete { (p : FlatProduct) → NameValued (H.files shelf.old) (words_of words.now) p →
+        IsSome (H.files shelf.old) → H.failed shelf.new ≡ H.failed shelf.old →
+        ¬ Rose (K.faults sink.old) (K.faults sink.new) → (result.end ≡ End.Done) ⊎ (result.end ≡ End.Memory) }
+
     ensures files { H.files shelf.new ≡ H.files shelf.old }
 {
     let plan = match plan_words(alloc, words, shelf) {

@@ -9,16 +9,46 @@ use std::alloc::{AllocError, Global};
 use std::test::Fail;
 
 /// One state, 12 months, no interest, 384 minor units per year.
-const FLAT: &[u8] =
-    b"format = 1\nname = \"flat\"\nmonths = 12\nden = 1\nstart = \"on\"\nstates = [\"on\"]\ninterest = [{ from = 0, c = [0] }]\n\n[[sojourn]]\nstate = \"on\"\nsteps = [{ from = 0, amount = 384 }]\n";
+const FLAT: &[u8] = br#"format = 1
+name = "flat"
+months = 12
+den = 1
+start = "on"
+states = ["on"]
+interest = [{ from = 0, c = [0] }]
+
+[[sojourn]]
+state = "on"
+steps = [{ from = 0, amount = 384 }]
+"#;
 
 /// The same with the longest term, the largest rate and a negative sign.
-const LARGE: &[u8] =
-    b"format = 1\nname = \"large\"\nmonths = 1200\nden = 1\nstart = \"on\"\nstates = [\"on\"]\ninterest = [{ from = 0, c = [0] }]\n\n[[sojourn]]\nstate = \"on\"\nsteps = [{ from = 0, amount = -1000000000000 }]\n";
+const LARGE: &[u8] = br#"format = 1
+name = "large"
+months = 1200
+den = 1
+start = "on"
+states = ["on"]
+interest = [{ from = 0, c = [0] }]
+
+[[sojourn]]
+state = "on"
+steps = [{ from = 0, amount = -1000000000000 }]
+"#;
 
 /// The same with a force of interest of a twentieth.
-const WITH_INTEREST: &[u8] =
-    b"format = 1\nname = \"flat\"\nmonths = 12\nden = 20\nstart = \"on\"\nstates = [\"on\"]\ninterest = [{ from = 0, c = [1] }]\n\n[[sojourn]]\nstate = \"on\"\nsteps = [{ from = 0, amount = 384 }]\n";
+const WITH_INTEREST: &[u8] = br#"format = 1
+name = "flat"
+months = 12
+den = 20
+start = "on"
+states = ["on"]
+interest = [{ from = 0, c = [1] }]
+
+[[sojourn]]
+state = "on"
+steps = [{ from = 0, amount = 384 }]
+"#;
 
 /// A shelf with the files of these tests.
 fn shelf(alloc: Global, failing: &[u64]) -> Result<MemoryShelf, AllocError> {

@@ -22,6 +22,7 @@ const STEP_RADIUS: u128 = 1024;
 const DEGREE: u8 = 24;
 
 /// The scale and the radius of a product at issue.
+#[derive(Drop)]
 struct Ledgers {
     scale: u32,
     radius: u128,

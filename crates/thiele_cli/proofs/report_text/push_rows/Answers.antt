@@ -14,6 +14,7 @@ pub loop-i-preserved : goal.loop-i-preserved
 loop-i-preserved c =
     let p = product_of c.args.flat.now in
     let line = row_line p (get_or c.args.rows.now c.loop-i.i no_row) (get_or c.args.tolerances.now c.loop-i.i 0) in
-    let more = row_lines_more p c.args.rows.now c.args.tolerances.now c.loop-i.i no_row 0 c.requires c.loop-i-test.true in
+    let more = row_lines_more p c.args.rows.now c.args.tolerances.now c.loop-i.i no_row 0 c.requires
+    c.loop-i-test.true in
     c.in_ok-push_row.ensures ∙ ap (λ text. text ++ line) c.loop-i.invariant ∙ append_assoc _ _ line
     ∙ ap (λ text. c.args.out.now.items ++ text) (sym more)

@@ -1,0 +1,11 @@
+pub mod Differences
+pub mod Distances
+pub mod Errors
+pub mod Grown
+pub mod Halves
+pub mod Images
+pub mod PairRadii
+pub mod PairSteps
+pub mod Residues
+pub mod Steps
+pub mod StoredNorms

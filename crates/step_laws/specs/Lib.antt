@@ -1,0 +1,3 @@
+pub mod RoundedRuns
+pub mod StandsFor
+pub mod StepLaws

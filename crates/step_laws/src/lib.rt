@@ -1,0 +1,6 @@
+//! The theory of a rounded Taylor step: how far its sum is from the exact Taylor value.
+#![tactic(auto)]
+
+mod radius_laws;
+
+pub use radius_laws::{pair_steps_stay_within_their_radius, steps_stay_within_their_radius};
