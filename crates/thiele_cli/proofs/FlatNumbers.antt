@@ -14,7 +14,6 @@ use Rattle.frac_laws.proofs.Sizes.{size_le_of_between}
 use Rattle.product_reader.specs.FlatTree.{FlatProduct}
 use Rattle.thiele_cli.specs.FlatRun.{cell_interest, cell_payment}
 use Rattle.thiele_cli.specs.FlatSystem.{scaling}
-use Rattle.thiele_cli.proofs.FlatRanges.{HasRanges}
 
 floor_gap_low : (q part f one u : Fraction) → f ≤ℚ part *ℚ one → one *ℚ u ≡ whole (pos 1) → whole (pos 0) ≤ℚ u → f *ℚ u ≤ℚ part
 floor_gap_low q part f one u below inverse some =
@@ -42,10 +41,10 @@ floor_near z d some =
       (linear (over z d ∷ whole f ∷ unit ∷ []) (low ⊞ natural 1 (2 ^ 64)) (hlevel claims) refl) high)
 
 -- the number stored for the interest is within a unit
-pub interest_near : (p : FlatProduct) → HasRanges p
+pub interest_near : (p : FlatProduct) → pos 1 ≤ℤ p.den
     → size (opposite (cell_interest p) -ℚ over (floor_of (neg_ℤ p.interest *ℤ pos (2 ^ 64)) (pos (384 * nat_abs p.den))) (2 ^ 64)) ≤ℚ over (pos 1) (2 ^ 64)
-interest_near p ranges =
-    let some : 1 ≤ 384 * nat_abs p.den = some_cells p.den ranges.least_den in
+interest_near p least =
+    let some : 1 ≤ 384 * nat_abs p.den = some_cells p.den least in
     rw (← over-opposite p.interest (384 * nat_abs p.den)) (floor_near (neg_ℤ p.interest) (384 * nat_abs p.den) some)
   where
     some_cells : (d : ℤ) → pos 1 ≤ℤ d → 1 ≤ 384 * nat_abs d

@@ -4,7 +4,7 @@ use Rattle.std.proofs.Common.{refl, ap, sym, ◌∙◌, arith}
 use Rattle.std.proofs.lemmas.Int.{ints}
 use Rattle.std.proofs.lemmas.Grind.{div_ceil_times}
 use Rattle.std.proofs.lemmas.Nat.{mul-le}
-use Rattle.std.proofs.Math.Nat.{pow-le-pow_left, lt_of_mul-lt-mul_right, mul-le-mul_right}
+use Rattle.std.proofs.Math.Nat.{pow-le-pow_left, pow-suc, pow-zero, one-mul, mul_assoc, lt_of_mul-lt-mul_right, mul-le-mul_right}
 use Rattle.std.specs.Int.{div_ceil}
 use Rattle.frac_laws.specs.Ledger.{grow, IsScale, scale_of_bound}
 use Rattle.frac_laws.proofs.LedgerLaws.{scale_of_bound-scale}
@@ -29,7 +29,7 @@ pub grow_mono : (w v kappa add more : ℕ) → w ≤ v → add ≤ more → grow
 grow_mono w v kappa add more order adds =
     omega (arith, order, adds, div_ceil_mono (w * kappa) (v * kappa) (2 ^ 40) (omega arith) (mul-le-mul_right kappa order))
 
-phi40_most : (i d : ℤ) → pos 1 ≤ℤ d → pos 0 ≤ℤ i → (pos 4 *ℤ i) ≤ℤ d → div_ceil (2 ^ 40 * (6 * nat_abs i)) (768 * nat_abs d) ≤ 2 ^ 31
+pub phi40_most : (i d : ℤ) → pos 1 ≤ℤ d → pos 0 ≤ℤ i → (pos 4 *ℤ i) ≤ℤ d → div_ceil (2 ^ 40 * (6 * nat_abs i)) (768 * nat_abs d) ≤ 2 ^ 31
 phi40_most i d some least most =
     div_ceil_most (2 ^ 40 * (6 * nat_abs i)) (768 * nat_abs d) (2 ^ 31) (omega (arith, ints)) (omega (arith, ints))
 
@@ -41,6 +41,31 @@ square_most : (phi : ℕ) → phi ≤ 2 ^ 31 → div_ceil (9 * phi ^ 2) (2 ^ 44)
 square_most phi most =
     let square : phi ^ 2 ≤ (2 ^ 31) ^ 2 = pow-le-pow_left most 2 in
     div_ceil_most (9 * phi ^ 2) (2 ^ 44) (2 ^ 22) (omega arith) (omega (arith, square))
+
+-- a square as a product
+square : (x : ℕ) → x ^ 2 ≡ x * x
+square x = pow-suc x 1 ∙ ap (λ y. y * x) (pow-suc x 0 ∙ ap (λ y. y * x) (pow-zero x) ∙ one-mul x)
+
+-- products of a growth that fit
+pub square_product : (phi : ℕ) → phi ≤ 2 ^ 31 → 9 * phi * phi ≤ 2 ^ 66
+square_product phi most =
+    let product : phi * phi ≤ 2 ^ 31 * 2 ^ 31 = mul-le phi phi (2 ^ 31) (2 ^ 31) most most in
+    omega (arith, mul_assoc 9 phi phi, product)
+
+pub square_quotient : (phi : ℕ) → phi ≤ 2 ^ 31 → div_ceil (9 * phi * phi) (2 ^ 44) ≤ 2 ^ 22
+square_quotient phi most =
+    let product : phi * phi ≤ 2 ^ 31 * 2 ^ 31 = mul-le phi phi (2 ^ 31) (2 ^ 31) most most in
+    div_ceil_most (9 * phi * phi) (2 ^ 44) (2 ^ 22) (omega arith) (omega (arith, mul_assoc 9 phi phi, product))
+
+-- the growth of a cell, where the interest is not negative
+pub growth_is : (phi : ℕ) (p : FlatProduct) → phi ≡ phi40 p → pos 1 ≤ℤ p.den → pos 0 ≤ℤ p.interest → div_ceil (9 * phi * phi) (2 ^ 44) ≡ kappa40 p
+growth_is phi p is_phi some least =
+    let product : 9 * phi * phi ≡ 9 * phi ^ 2 = mul_assoc 9 phi phi ∙ ap (λ y. 9 * y) (sym (square phi)) in
+    with_nothing (div_ceil (9 * phi * phi) (2 ^ 44)) (div_ceil (9 * phi40 p ^ 2) (2 ^ 44)) (div_ceil (2 ^ 40 * size_below_zero p.interest) (192 * nat_abs p.den))
+      (ap (λ y. div_ceil y (2 ^ 44)) product ∙ ap (λ y. div_ceil (9 * y ^ 2) (2 ^ 44)) is_phi) (below_nothing p.interest p.den some least)
+  where
+    with_nothing : (a b c : ℕ) → a ≡ b → c ≤ 0 → a ≡ b + c
+    with_nothing a b c same none = omega (arith, same, none)
 
 -- the growth of a cell is at most 2^-18
 pub kappa40_most : (p : FlatProduct) → HasRanges p → kappa40 p ≤ 2 ^ 22
