@@ -6,6 +6,7 @@ pub mod FlatMidpoints
 pub mod FlatMoments
 pub mod FlatNumbers
 pub mod FlatRanges
+pub mod FlatSteps
 pub mod FlatStored
 pub mod FlatTame
 pub mod FlatTaylor

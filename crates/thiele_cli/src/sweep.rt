@@ -1,12 +1,14 @@
 // The sweep of a flat product from the term to issue, cell by cell.
-ghost use Rattle.std.specs.Prelude.{◌≡◌, ◌*◌, ◌+◌, ◌^◌, ◌≤◌, ◌<◌, pos, ◌*ℤ◌, ◌≤ℤ◌, nat_abs, unsigned_abs, IfOk};
+ghost use Rattle.std.specs.Prelude.{◌≡◌, ◌*◌, ◌+◌, ◌^◌, ◌≤◌, ◌<◌, pos, ◌*ℤ◌, ◌≤ℤ◌, nat_abs, unsigned_abs, IfOk, [], ◌∷◌, length, slice_index_or};
 ghost use Rattle.product_reader.specs.Flat.{product_of};
-ghost use Rattle.thiele_cli.specs.FlatLedger.{radius};
+ghost use Rattle.linear_system.specs.StandsFor.{StandsFor};
+ghost use Rattle.thiele_cli.specs.FlatLedger.{radius, scale};
 ghost use Rattle.thiele_cli.specs.FlatLedger as formula;
 ghost use Rattle.thiele_cli.specs.FlatRun.{cells_of};
-ghost use Rattle.thiele_cli.specs.FlatSystem.{IsMidpoint};
+ghost use Rattle.thiele_cli.specs.FlatSystem.{flat_system, IsMidpoint};
 
 use crate::cell::cell_system;
+use linear_system::CellSystem;
 use product_reader::Flat;
 use std::alloc::{AllocError, Global};
 use std::sync::ledger::Ledger;
@@ -15,7 +17,35 @@ use taylor_step::{Steps, Work, step};
 /// The cells of a month.
 pub const CELLS_OF_MONTH: u32 = 32;
 
-/// The value at issue, in units of 2^-64 at the product's scale: a Taylor step for each cell.
+/// Goes from the term to issue, with a Taylor step for each cell.
+fn sweep<L: Ledger>(
+    flat: &Flat,
+    system: &CellSystem,
+    mid: &mut [i128],
+    work: &mut Work,
+    steps: &mut Steps<L>,
+)
+    requires some_months { 1 ≤ flat.now.months }
+    requires months { flat.now.months ≤ 1200 }
+    requires some_den { pos 1 ≤ℤ flat.now.den }
+    requires den { flat.now.den ≤ℤ pos (10 ^ 12) }
+    requires natural { pos 0 ≤ℤ flat.now.interest }
+    requires interest { (pos 4 *ℤ flat.now.interest) ≤ℤ flat.now.den }
+    requires rate { nat_abs flat.now.rate ≤ 10 ^ 12 }
+    requires system { StandsFor system.now (flat_system (product_of flat.now) (scale (product_of flat.now))) }
+    requires start { mid.old ≡ pos 0 ∷ [] }
+    requires work { work.old ≡ 1 }
+    requires count { steps.old ≤ 2 ^ 62 }
+    ensures one { length mid.new ≡ 1 }
+    ensures held { IsMidpoint (product_of flat.now) (scale (product_of flat.now)) (cells_of (product_of flat.now)) (slice_index_or mid.new 0 (pos 0)) (radius (product_of flat.now)) }
+    ensures size { unsigned_abs (slice_index_or mid.new 0 (pos 0)) ≤ 2 ^ 65 }
+{
+    for _cell in 0..CELLS_OF_MONTH * flat.months {
+        step(system, mid, work, steps);
+    }
+}
+
+/// The value at issue, in units of 2^-64 at the product's scale: swept from the term.
 pub fn midpoint<L: Ledger>(
     alloc: Global,
     flat: &Flat,
@@ -37,9 +67,7 @@ pub fn midpoint<L: Ledger>(
 {
     let system = cell_system(alloc, flat, scale)?;
     let mut work = Work::new(alloc, 1)?;
-    let mut mid = vec![in alloc; 0i128; 1]?;
-    for _cell in 0..CELLS_OF_MONTH * flat.months {
-        step(&system, &mut mid, &mut work, steps);
-    }
+    let mut mid = [0];
+    sweep(flat, &system, &mut mid, &mut work, steps);
     Ok(mid[0])
 }

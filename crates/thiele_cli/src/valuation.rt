@@ -98,8 +98,9 @@ pub fn value_report(alloc: Global, flat: &Flat) -> Result<Report, AllocError>
     ensures same { IfOk result (λ report. length report.rows.items ≡ length report.tolerance.items) }
 {
     let ledgers = ledgers_of(flat);
+    let row = value_row::<Brand>(alloc, flat, &ledgers, Blank::new(1))?;
     let mut rows = Vec::new(alloc);
-    rows.push(value_row::<Brand>(alloc, flat, &ledgers, Blank::new(1))?)?;
+    rows.push(row)?;
     let mut tolerance = Vec::new(alloc);
     tolerance.push(tolerance_first(ledgers.radius, ledgers.scale))?;
     Ok(Report {

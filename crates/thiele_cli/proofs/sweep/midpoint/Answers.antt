@@ -1,4 +1,3 @@
-use Rattle.std.proofs.Common.{◌≡◌}
 use Rattle.product_reader.specs.Flat.{product_of}
 use Rattle.thiele_cli.proofs.FlatRanges.{HasRanges}
 use Rattle.thiele_cli.proofs.LedgerSizes.{rate_within_scale}
