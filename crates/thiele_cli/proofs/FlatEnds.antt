@@ -14,7 +14,7 @@ use Rattle.product_reader.specs.FlatTree.{FlatProduct}
 use Rattle.thiele_cli.specs.FlatRun.{value_at_issue, cells_of}
 use Rattle.thiele_cli.specs.FlatSystem.{scaling, IsMidpoint}
 use Rattle.thiele_cli.specs.Reports.{AreEnds, Encloses}
-use Rattle.thiele_cli.proofs.FlatRanges.{scaling-inverse}
+use Rattle.thiele_cli.proofs.FlatCells.{scaling-inverse}
 use Rattle.thiele_cli.proofs.FlatMoments.{distance-single}
 
 -- (mid - w) u <= v h, where h is one part in g, puts (mid - w) g m u below m v

@@ -18,7 +18,7 @@ use Rattle.product_reader.specs.FlatTree.{FlatProduct}
 use Rattle.thiele_cli.specs.FlatRun.{value_before_term, cells_of}
 use Rattle.thiele_cli.specs.FlatLedger.{kappa40, ledger_after, scale}
 use Rattle.thiele_cli.specs.FlatSystem.{scaling, flat_system, scaled_run, IsMidpoint}
-use Rattle.thiele_cli.proofs.FlatRanges.{HasRanges}
+use Rattle.thiele_cli.specs.FlatRanges.{HasRanges}
 use Rattle.thiele_cli.proofs.FlatTame.{norm-single}
 use Rattle.thiele_cli.proofs.FlatTaylor.{runs_are_taylor_values}
 use Rattle.thiele_cli.proofs.FlatMoments.{scaled_value, distance-single, values_within_scale}

@@ -31,7 +31,8 @@ use Rattle.product_reader.specs.FlatTree.{FlatProduct}
 use Rattle.thiele_cli.specs.FlatRun.{cell_interest, cell_payment, value_before_term, cells_of}
 use Rattle.thiele_cli.specs.FlatLedger.{kappa40, pay1024, rate_pay1024, ledger_after, bound1024, scale}
 use Rattle.thiele_cli.specs.FlatSystem.{scaling, flat_system, scaled_run}
-use Rattle.thiele_cli.proofs.FlatRanges.{HasRanges, payment_small, scaling-inverse}
+use Rattle.thiele_cli.specs.FlatRanges.{HasRanges}
+use Rattle.thiele_cli.proofs.FlatCells.{payment_small, scaling-inverse}
 use Rattle.thiele_cli.proofs.FlatTame.{norm-single, flat_system_tame}
 use Rattle.thiele_cli.proofs.FlatTaylor.{runs_are_taylor_values}
 use Rattle.thiele_cli.proofs.LedgerSizes.{ledger_after_mono, bound_within_scale, rate_within_scale}

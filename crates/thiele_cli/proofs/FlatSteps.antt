@@ -10,7 +10,7 @@ use Rattle.product_reader.specs.FlatTree.{FlatProduct}
 use Rattle.thiele_cli.specs.FlatRun.{cells_of}
 use Rattle.thiele_cli.specs.FlatLedger.{kappa40, ledger_after, scale}
 use Rattle.thiele_cli.specs.FlatSystem.{flat_system, IsMidpoint}
-use Rattle.thiele_cli.proofs.FlatRanges.{HasRanges}
+use Rattle.thiele_cli.specs.FlatRanges.{HasRanges}
 use Rattle.thiele_cli.proofs.FlatTame.{flat_system_tame}
 use Rattle.thiele_cli.proofs.FlatMidpoints.{StepEncloses, midpoint_before_cell, midpoint_most, radius_most}
 use Rattle.thiele_cli.proofs.LedgerSizes.{rate_within_scale}
@@ -35,16 +35,17 @@ can_step p g cells s (x ∷ []) ranges is_scale few stands one held =
     at_most (suc i) = omega arith
 can_step p g cells s (x ∷ y ∷ mid) ranges is_scale few stands one held = cc
 
--- and keeps the midpoint
-pub stepped : (p : FlatProduct) (g cells degree : ℕ) (old new : List ℤ) → HasRanges p → g ≡ scale p → cells < cells_of p → degree ≡ 24
-    → length old ≡ 1 → length new ≡ 1 → Encloses Sup (flat_system p g) (kappa40 p) old new degree
+-- and keeps the midpoint at the next cell
+pub stepped : (p : FlatProduct) (g cells next degree : ℕ) (old new : List ℤ) → HasRanges p → g ≡ scale p → cells < cells_of p
+    → next ≡ suc cells → degree ≡ 24 → length old ≡ 1 → length new ≡ 1
+    → Encloses Sup (flat_system p g) (kappa40 p) old new degree
     → IsMidpoint p g cells (slice_index_or old 0 (pos 0)) (ledger_after (kappa40 p) 1024 cells)
-    → IsMidpoint p g (suc cells) (slice_index_or new 0 (pos 0)) (ledger_after (kappa40 p) 1024 (suc cells))
-stepped p g cells degree [] new ranges is_scale few is_degree one one_new encloses held = cc
-stepped p g cells degree (x ∷ y ∷ old) new ranges is_scale few is_degree one one_new encloses held = cc
-stepped p g cells degree (x ∷ []) [] ranges is_scale few is_degree one one_new encloses held = cc
-stepped p g cells degree (x ∷ []) (z ∷ y ∷ new) ranges is_scale few is_degree one one_new encloses held = cc
-stepped p g cells degree (x ∷ []) (z ∷ []) ranges is_scale few is_degree one one_new encloses held =
-    let promise : StepEncloses (flat_system p g) (kappa40 p) x z = λ y rad n fits small near_limit near from.
-      encloses y rad n fits small near_limit near (rw is_degree from) in
-    rw is_scale (midpoint_before_cell p cells x z ranges few (rw is_scale at held) (rw is_scale at promise))
+    → IsMidpoint p g next (slice_index_or new 0 (pos 0)) (ledger_after (kappa40 p) 1024 next)
+stepped p g cells next degree [] new ranges is_scale few is_next is_degree one one_new encloses held = cc
+stepped p g cells next degree (x ∷ y ∷ old) new ranges is_scale few is_next is_degree one one_new encloses held = cc
+stepped p g cells next degree (x ∷ []) [] ranges is_scale few is_next is_degree one one_new encloses held = cc
+stepped p g cells next degree (x ∷ []) (z ∷ y ∷ new) ranges is_scale few is_next is_degree one one_new encloses held = cc
+stepped p g cells next degree (x ∷ []) (z ∷ []) ranges is_scale few is_next is_degree one one_new encloses held =
+    let promise : StepEncloses (flat_system p g) (kappa40 p) x z = λ y rad n fits small limit near from.
+      encloses y rad n fits small limit near (rw is_degree from) in
+    rw (is_next, is_scale) (midpoint_before_cell p cells x z ranges few (rw is_scale at held) (rw is_scale at promise))

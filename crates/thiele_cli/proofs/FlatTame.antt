@@ -12,7 +12,8 @@ use Rattle.cell_laws.specs.Tame.{IsTame, IsGrowth, growth_of, total_norm, weight
 use Rattle.product_reader.specs.FlatTree.{FlatProduct}
 use Rattle.thiele_cli.specs.FlatRun.{cell_interest, cell_payment}
 use Rattle.thiele_cli.specs.FlatSystem.{scaling, flat_system}
-use Rattle.thiele_cli.proofs.FlatRanges.{HasRanges, cell_interest_natural, cell_interest_small, payment_small}
+use Rattle.thiele_cli.specs.FlatRanges.{HasRanges}
+use Rattle.thiele_cli.proofs.FlatCells.{cell_interest_natural, cell_interest_small, payment_small}
 
 -- the greater of a number that is not negative and 0
 greater-nothing : (x : Fraction) → whole (pos 0) ≤ℚ x → greater x (whole (pos 0)) ≡ x

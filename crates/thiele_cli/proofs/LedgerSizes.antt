@@ -11,7 +11,7 @@ use Rattle.frac_laws.proofs.LedgerLaws.{scale_of_bound-scale}
 use Rattle.product_reader.specs.FlatTree.{FlatProduct}
 use Rattle.thiele_cli.specs.FlatRun.{cells_of}
 use Rattle.thiele_cli.specs.FlatLedger.{phi40, kappa40, rate_pay1024, pay1024, ledger_after, bound1024, scale, radius, size_below_zero}
-use Rattle.thiele_cli.proofs.FlatRanges.{HasRanges}
+use Rattle.thiele_cli.specs.FlatRanges.{HasRanges}
 
 -- a quotient that is rounded up is at most each whole number that is at least the quotient
 pub div_ceil_most : (n d m : ℕ) → 0 < d → n ≤ m * d → div_ceil n d ≤ m

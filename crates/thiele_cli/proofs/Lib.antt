@@ -1,11 +1,12 @@
 pub mod Cases
 pub mod EndWidths
 pub mod Endings
+pub mod FlatCells
 pub mod FlatEnds
+pub mod FlatFiles
 pub mod FlatMidpoints
 pub mod FlatMoments
 pub mod FlatNumbers
-pub mod FlatRanges
 pub mod FlatSteps
 pub mod FlatStored
 pub mod FlatTame

@@ -1,5 +1,6 @@
 pub mod Causes
 pub mod FlatLedger
+pub mod FlatRanges
 pub mod FlatRun
 pub mod FlatSystem
 pub mod Outcome

@@ -3,6 +3,7 @@ ghost use Rattle.std.specs.Prelude.{◌≡◌, ◌*◌, ◌^◌, ◌≤◌, pos,
 ghost use Rattle.frac_laws.specs.Rounding.{floor_of};
 ghost use Rattle.linear_system.specs.StandsFor.{StandsFor};
 ghost use Rattle.product_reader.specs.Flat.{product_of};
+ghost use Rattle.thiele_cli.specs.FlatRanges.{HasRanges};
 ghost use Rattle.thiele_cli.specs.FlatSystem.{flat_system};
 
 use fixed_num::from_fraction;
@@ -36,9 +37,7 @@ fn payment_number(rate: i64, scale: u32) -> i128
 
 /// The equation of every cell, with values divided by 2^scale.
 pub fn cell_system(alloc: Global, flat: &Flat, scale: u32) -> Result<CellSystem, AllocError>
-    requires some_den { pos 1 ≤ℤ flat.now.den }
-    requires natural { pos 0 ≤ℤ flat.now.interest }
-    requires interest { (pos 4 *ℤ flat.now.interest) ≤ℤ flat.now.den }
+    requires ranges { HasRanges (product_of flat.now) }
     requires scale { scale ≤ 56 }
     requires within { nat_abs flat.now.rate ≤ 6 * 2 ^ scale }
     ensures { IfOk result (λ system. StandsFor system (flat_system (product_of flat.now) scale)) }

@@ -1,6 +1,7 @@
 // The ledgers of a flat product, from the term to issue.
 ghost use Rattle.std.specs.Prelude.{◌≡◌, ◌*◌, ◌^◌, ◌≤◌, pos, ◌*ℤ◌, ◌≤ℤ◌, nat_abs};
 ghost use Rattle.product_reader.specs.Flat.{product_of};
+ghost use Rattle.thiele_cli.specs.FlatRanges.{HasRanges};
 ghost use Rattle.thiele_cli.specs.FlatLedger.{ledger_after, rate_pay1024};
 ghost use Rattle.thiele_cli.specs.FlatLedger as formula;
 
@@ -10,10 +11,7 @@ use product_reader::Flat;
 /// The growth of a cell in units of 2^-40: `ceil(9 * phi^2 / 2^44)` with `phi = ceil(2^40 * 6 i / 768)` for the yearly
 /// interest i, which is not negative.
 pub fn kappa40(flat: &Flat) -> u64
-    requires some_den { pos 1 ≤ℤ flat.now.den }
-    requires den { flat.now.den ≤ℤ pos (10 ^ 12) }
-    requires natural { pos 0 ≤ℤ flat.now.interest }
-    requires interest { (pos 4 *ℤ flat.now.interest) ≤ℤ flat.now.den }
+    requires ranges { HasRanges (product_of flat.now) }
     ensures value { result ≡ formula.kappa40 (product_of flat.now) }
     ensures size { result ≤ 2 ^ 22 }
 {

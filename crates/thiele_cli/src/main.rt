@@ -5,6 +5,7 @@ mod cell;
 mod decimal;
 mod enclosure;
 mod end;
+mod laws;
 mod ledger;
 mod pieces;
 mod plan;

@@ -1,5 +1,6 @@
 // What is to be written for the words and the file that they name, before the sink is reached.
 ghost use Rattle.std.specs.Prelude.{◌≡◌, ◌≤◌, ◌^◌, ◌++◌, pos, ◌*ℤ◌, ◌≤ℤ◌, nat_abs, None, IfOk, OnErr, codes, decimal};
+ghost use Rattle.thiele_cli.specs.FlatRanges.{HasRanges};
 ghost use Rattle.thiele_cli.specs.Words.{words_of};
 ghost use Rattle.thiele_cli.specs.Outcome.{IsReportOf, Refuses, Settles, SettlesFile, failed_name};
 ghost use Rattle.product_reader.specs.Flat.{product_of};
@@ -56,13 +57,7 @@ fn plan_too_long(alloc: Global, seen: u64) -> Result<Plan, AllocError>
 
 /// The report of a flat product, and its text.
 fn plan_flat(alloc: Global, flat: &Flat) -> Result<Plan, AllocError>
-    requires some_months { 1 ≤ flat.now.months }
-    requires months { flat.now.months ≤ 1200 }
-    requires some_den { pos 1 ≤ℤ flat.now.den }
-    requires den { flat.now.den ≤ℤ pos (10 ^ 12) }
-    requires natural { pos 0 ≤ℤ flat.now.interest }
-    requires interest { (pos 4 *ℤ flat.now.interest) ≤ℤ flat.now.den }
-    requires rate { nat_abs flat.now.rate ≤ 10 ^ 12 }
+    requires ranges { HasRanges (product_of flat.now) }
     ensures end { IfOk result (λ plan. plan.end ≡ End.Done) }
     ensures report { IfOk result (λ plan. IsReportOf (product_of flat.now) plan.report plan.text.items) }
 {

@@ -2,6 +2,7 @@
 ghost use Rattle.std.specs.Prelude.{◌≡◌, ◌*◌, ◌+◌, ◌^◌, ◌≤◌, ◌<◌, pos, ◌*ℤ◌, ◌≤ℤ◌, nat_abs, unsigned_abs, IfOk, [], ◌∷◌, length, slice_index_or};
 ghost use Rattle.product_reader.specs.Flat.{product_of};
 ghost use Rattle.linear_system.specs.StandsFor.{StandsFor};
+ghost use Rattle.thiele_cli.specs.FlatRanges.{HasRanges};
 ghost use Rattle.thiele_cli.specs.FlatLedger.{radius, scale};
 ghost use Rattle.thiele_cli.specs.FlatLedger as formula;
 ghost use Rattle.thiele_cli.specs.FlatRun.{cells_of};
@@ -25,13 +26,7 @@ fn sweep<L: Ledger>(
     work: &mut Work,
     steps: &mut Steps<L>,
 )
-    requires some_months { 1 ≤ flat.now.months }
-    requires months { flat.now.months ≤ 1200 }
-    requires some_den { pos 1 ≤ℤ flat.now.den }
-    requires den { flat.now.den ≤ℤ pos (10 ^ 12) }
-    requires natural { pos 0 ≤ℤ flat.now.interest }
-    requires interest { (pos 4 *ℤ flat.now.interest) ≤ℤ flat.now.den }
-    requires rate { nat_abs flat.now.rate ≤ 10 ^ 12 }
+    requires ranges { HasRanges (product_of flat.now) }
     requires system { StandsFor system.now (flat_system (product_of flat.now) (scale (product_of flat.now))) }
     requires start { mid.old ≡ pos 0 ∷ [] }
     requires work { work.old ≡ 1 }
@@ -52,13 +47,7 @@ pub fn midpoint<L: Ledger>(
     scale: u32,
     steps: &mut Steps<L>,
 ) -> Result<i128, AllocError>
-    requires some_months { 1 ≤ flat.now.months }
-    requires months { flat.now.months ≤ 1200 }
-    requires some_den { pos 1 ≤ℤ flat.now.den }
-    requires den { flat.now.den ≤ℤ pos (10 ^ 12) }
-    requires natural { pos 0 ≤ℤ flat.now.interest }
-    requires interest { (pos 4 *ℤ flat.now.interest) ≤ℤ flat.now.den }
-    requires rate { nat_abs flat.now.rate ≤ 10 ^ 12 }
+    requires ranges { HasRanges (product_of flat.now) }
     requires scale { scale ≡ formula.scale (product_of flat.now) }
     requires most_scale { scale ≤ 56 }
     requires count { steps.old ≤ 2 ^ 62 }

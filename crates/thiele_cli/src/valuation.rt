@@ -1,6 +1,7 @@
 // The report of the value of a flat product.
 ghost use Rattle.std.specs.Prelude.{◌≡◌, ◌*◌, ◌^◌, ◌≤◌, ◌<◌, pos, ◌*ℤ◌, ◌≤ℤ◌, nat_abs, length, IfOk};
 ghost use Rattle.product_reader.specs.Flat.{product_of};
+ghost use Rattle.thiele_cli.specs.FlatRanges.{HasRanges};
 ghost use Rattle.thiele_cli.specs.FlatLedger as formula;
 ghost use Rattle.thiele_cli.specs.Reports.{IsValueReport, IsValueRow};
 
@@ -30,13 +31,7 @@ struct Ledgers {
 
 /// The ledgers from the term to issue.
 fn ledgers_of(flat: &Flat) -> Ledgers
-    requires some_months { 1 ≤ flat.now.months }
-    requires months { flat.now.months ≤ 1200 }
-    requires some_den { pos 1 ≤ℤ flat.now.den }
-    requires den { flat.now.den ≤ℤ pos (10 ^ 12) }
-    requires natural { pos 0 ≤ℤ flat.now.interest }
-    requires interest { (pos 4 *ℤ flat.now.interest) ≤ℤ flat.now.den }
-    requires rate { nat_abs flat.now.rate ≤ 10 ^ 12 }
+    requires ranges { HasRanges (product_of flat.now) }
     ensures scale { result.scale ≡ formula.scale (product_of flat.now) }
     ensures most_scale { result.scale ≤ 56 }
     ensures radius { result.radius ≡ formula.radius (product_of flat.now) }
@@ -58,13 +53,7 @@ fn value_row<L: Ledger>(
     ledgers: &Ledgers,
     blank: Blank,
 ) -> Result<Row, AllocError>
-    requires some_months { 1 ≤ flat.now.months }
-    requires months { flat.now.months ≤ 1200 }
-    requires some_den { pos 1 ≤ℤ flat.now.den }
-    requires den { flat.now.den ≤ℤ pos (10 ^ 12) }
-    requires natural { pos 0 ≤ℤ flat.now.interest }
-    requires interest { (pos 4 *ℤ flat.now.interest) ≤ℤ flat.now.den }
-    requires rate { nat_abs flat.now.rate ≤ 10 ^ 12 }
+    requires ranges { HasRanges (product_of flat.now) }
     requires scale { ledgers.now.scale ≡ formula.scale (product_of flat.now) }
     requires most_scale { ledgers.now.scale ≤ 56 }
     requires radius { ledgers.now.radius ≡ formula.radius (product_of flat.now) }
@@ -87,13 +76,7 @@ fn value_row<L: Ledger>(
 
 /// The report of the value at issue of a flat product.
 pub fn value_report(alloc: Global, flat: &Flat) -> Result<Report, AllocError>
-    requires some_months { 1 ≤ flat.now.months }
-    requires months { flat.now.months ≤ 1200 }
-    requires some_den { pos 1 ≤ℤ flat.now.den }
-    requires den { flat.now.den ≤ℤ pos (10 ^ 12) }
-    requires natural { pos 0 ≤ℤ flat.now.interest }
-    requires interest { (pos 4 *ℤ flat.now.interest) ≤ℤ flat.now.den }
-    requires rate { nat_abs flat.now.rate ≤ 10 ^ 12 }
+    requires ranges { HasRanges (product_of flat.now) }
     ensures report { IfOk result (λ report. IsValueReport (product_of flat.now) report) }
     ensures same { IfOk result (λ report. length report.rows.items ≡ length report.tolerance.items) }
 {

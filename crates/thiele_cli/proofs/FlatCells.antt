@@ -1,4 +1,4 @@
--- The ranges of a flat product's numbers, as its file has them, and what a cell has of them.
+-- The interest and the payment of a flat product's cell are small.
 use Rattle.std.specs.Prelude.{◌≡◌, ℕ, suc, pos, negsuc, ◌+◌, ◌*◌, ◌^◌, ◌≤◌, ◌<◌, ℤ, ◌*ℤ◌, ◌≤ℤ◌, nat_abs, List, [], ◌∷◌}
 use Rattle.std.proofs.Common.{refl, ap, sym, ◌∙◌, arith, pow_pos}
 use Rattle.std.proofs.lemmas.Int.{ints}
@@ -9,18 +9,9 @@ use Rattle.frac_laws.proofs.Linear.{linear, claims, natural, ◌⊞◌, ◌⊠�
 use Rattle.frac_laws.proofs.Quotients.{over_le_of_cross, over_mul, over_is, inverse}
 use Rattle.frac_laws.proofs.Sizes.{size_le_of_between, size_mul, size_of_natural}
 use Rattle.product_reader.specs.FlatTree.{FlatProduct}
+use Rattle.thiele_cli.specs.FlatRanges.{HasRanges}
 use Rattle.thiele_cli.specs.FlatRun.{cell_interest, cell_payment}
 use Rattle.thiele_cli.specs.FlatSystem.{scaling}
-
--- what the file's rules say of the numbers
-pub record HasRanges (p : FlatProduct) : Type 0 where
-  pub least_months : 1 ≤ p.months
-  pub most_months : p.months ≤ 1200
-  pub least_den : pos 1 ≤ℤ p.den
-  pub most_den : p.den ≤ℤ pos (10 ^ 12)
-  pub least_interest : pos 0 ≤ℤ p.interest
-  pub most_interest : (pos 4 *ℤ p.interest) ≤ℤ p.den
-  pub most_rate : nat_abs p.rate ≤ 10 ^ 12
 
 interest_is_natural : (i d : ℤ) → pos 1 ≤ℤ d → pos 0 ≤ℤ i → whole (pos 0) ≤ℚ over i (384 * nat_abs d)
 interest_is_natural i d some least =
