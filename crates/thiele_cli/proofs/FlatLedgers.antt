@@ -1,12 +1,12 @@
 -- The ledgers of a product without interest.
-use Rattle.std.proofs.Common.{◌≡◌, ℕ, zero, suc, ◌+◌, ◌*◌, ◌^◌, ◌/◌, ◌%◌, ◌≤◌, min, ℤ, pos, refl, ap, sym}
+use Rattle.std.proofs.Common.{◌≡◌, ℕ, zero, suc, ◌+◌, ◌*◌, ◌^◌, ℤ, pos, refl, ap}
 use Rattle.std.proofs.Common.{◌∙◌, arith}
 use Rattle.std.specs.Prelude.{nat_abs}
 use Rattle.std.specs.Int.{div_ceil}
 use Rattle.frac_laws.specs.Ledger.{grow}
 use Rattle.product_reader.specs.FlatTree.{FlatProduct}
 use Rattle.thiele_cli.specs.FlatRun.{cells_of}
-use Rattle.thiele_cli.specs.FlatLedger.{phi40, kappa40, pay1024, ledger_after, bound1024, radius}
+use Rattle.thiele_cli.specs.FlatLedger.{kappa40, pay1024, ledger_after, bound1024, radius}
 use Rattle.thiele_cli.specs.FlatLedger.{size_below_zero}
 
 -- nothing has the quotient 0, rounded up

@@ -1,13 +1,12 @@
 -- The degree-n run of a product without interest: the payments of all cells, from degree 1 on.
-use Rattle.std.specs.Prelude.{◌≡◌, ℕ, zero, suc, ◌+◌, ◌*◌, ◌≤◌, ℤ, pos, ◌*ℤ◌, List, [], ◌∷◌, nat_abs}
-use Rattle.std.proofs.Common.{refl, ap, sym, ◌∙◌, arith}
+use Rattle.std.specs.Prelude.{◌≡◌, ℕ, zero, suc, ◌*◌, pos, [], ◌∷◌, nat_abs}
+use Rattle.std.proofs.Common.{refl, ap, sym, ◌∙◌}
 use Rattle.frac_laws.specs.Fraction.{Fraction, whole, over, ◌+ℚ◌, ◌*ℚ◌, opposite}
-use Rattle.frac_laws.specs.Sums.{sum_to}
 use Rattle.frac_laws.proofs.FractionTerms.{ring, terms}
-use Rattle.frac_laws.proofs.Quotients.{over_is, over_mul, whole_suc}
+use Rattle.frac_laws.proofs.Quotients.{over_is, whole_suc}
 use Rattle.product_reader.specs.FlatTree.{FlatProduct}
-use Rattle.thiele_cli.specs.FlatRun.{cell_interest, cell_payment, payment_at, coefficient, taylor_value}
-use Rattle.thiele_cli.specs.FlatRun.{value_before_term, cells_of, value_at_issue}
+use Rattle.thiele_cli.specs.FlatRun.{cell_interest, cell_payment, coefficient, taylor_value}
+use Rattle.thiele_cli.specs.FlatRun.{value_before_term}
 
 nothing_over : (d : ℕ) → over (pos 0) d ≡ whole (pos 0)
 nothing_over d = over_is (pos 0) d ∙ ring (over (pos 1) d ∷ []) (hlevel terms) refl

@@ -1,9 +1,8 @@
 -- The numbers of the program make a right report.
-use Rattle.std.proofs.Common.{◌≡◌, ℕ, zero, suc, ◌+◌, ◌*◌, ◌^◌, ◌≤◌, ◌<◌, ℤ, pos, ◌*ℤ◌, ◌≤ℤ◌, List, []}
-use Rattle.std.proofs.Common.{◌∷◌, refl, ap, sym, ◌∙◌, arith, pow_pos}
+use Rattle.std.proofs.Common.{◌≡◌, ℕ, zero, suc, ◌^◌, ◌≤◌, ◌<◌, ℤ, pos, ◌*ℤ◌, []}
+use Rattle.std.proofs.Common.{◌∷◌, ap, sym, ◌∙◌, arith, pow_pos}
 use Rattle.std.proofs.lemmas.Int.{ints}
-use Rattle.std.proofs.Math.IntN.{pos-*ℤ-pos}
-use Rattle.frac_laws.specs.Fraction.{Fraction, whole, over, ◌*ℚ◌, ◌≤ℚ◌}
+use Rattle.frac_laws.specs.Fraction.{whole, over, ◌*ℚ◌}
 use Rattle.frac_laws.specs.Ledger.{scale_of_bound, tolerance_first}
 use Rattle.frac_laws.proofs.Quotients.{over_mul, over_le_of_cross}
 use Rattle.product_reader.specs.FlatTree.{FlatProduct}
@@ -12,9 +11,9 @@ use Rattle.thiele_cli.specs.declared.report.What.TheVariants as what
 use Rattle.thiele_cli.specs.declared.report.Row.{Row}
 use Rattle.thiele_cli.specs.declared.report.Report.{Report}
 use Rattle.thiele_cli.specs.FlatRun.{cell_payment, cells_of, value_at_issue}
-use Rattle.thiele_cli.specs.FlatLedger.{ledger_after, rate_pay1024, pay1024, bound1024, radius, scale}
+use Rattle.thiele_cli.specs.FlatLedger.{ledger_after, rate_pay1024, radius, scale}
 use Rattle.thiele_cli.specs.FlatLedger.{tolerance}
-use Rattle.thiele_cli.specs.Reports.{AreEnds, rounded_value, Encloses, IsValueRow, IsValueReport}
+use Rattle.thiele_cli.specs.Reports.{AreEnds, rounded_value, Encloses, IsValueReport}
 use Rattle.thiele_cli.proofs.Enclosures.{lower_end_below, upper_end_above, ends_within}
 use Rattle.thiele_cli.proofs.FlatLedgers.{ledger_after-product, bound1024-nothing, radius-nothing}
 use Rattle.thiele_cli.proofs.FlatValues.{value_before_term-nothing}
