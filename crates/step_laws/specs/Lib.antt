@@ -1,3 +1,4 @@
 pub mod StandsFor
 pub mod RoundedRuns
 pub mod StepLaws
+pub mod StoredSteps

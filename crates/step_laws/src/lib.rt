@@ -2,5 +2,9 @@
 #![tactic(auto)]
 
 mod radius_laws;
+mod stored_laws;
 
 pub use radius_laws::{pair_steps_stay_within_their_radius, steps_stay_within_their_radius};
+pub use stored_laws::{
+    stored_pair_steps_stay_within_their_radius, stored_steps_stay_within_their_radius,
+};
