@@ -9,3 +9,5 @@ pub mod StoredNorms
 pub mod Steps
 pub mod PairSteps
 pub mod PairRadii
+pub mod Listed
+pub mod StoredSteps
