@@ -11,3 +11,4 @@ pub mod PairSteps
 pub mod PairRadii
 pub mod Listed
 pub mod StoredSteps
+pub mod StoredPairs

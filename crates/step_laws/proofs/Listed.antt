@@ -4,13 +4,13 @@ use Rattle.std.proofs.Common.{refl, ap, sym, ◌∙◌, inl, inr, arith}
 use mathlib.Core.Path.{ap₂}
 use Rattle.std.proofs.lemmas.Bool.{cases_lt}
 use Rattle.std.proofs.lemmas.List.{get_or_past}
-use Rattle.frac_laws.specs.Fraction.{Fraction, whole, ◌+ℚ◌, ◌*ℚ◌, ◌-ℚ◌, ◌≤ℚ◌, size}
+use Rattle.frac_laws.specs.Fraction.{Fraction, whole, ◌*ℚ◌}
 use Rattle.frac_laws.specs.Sums.{sum_to}
 use Rattle.frac_laws.specs.Lists.{Vector, Matrix, number_at, vector_at, matrix_at, image}
 use Rattle.frac_laws.proofs.Sums.{sum_to_ext}
 use Rattle.frac_laws.proofs.Vectors.{number_at-image, dot-sum}
 use Rattle.cell_laws.specs.Recurrence.{convolved}
-use Rattle.step_laws.specs.StandsFor.{units, entry_at, MatricesFit, VectorsFit, MatricesStandFor}
+use Rattle.step_laws.specs.StandsFor.{entry_at, MatricesFit, VectorsFit, MatricesStandFor}
 use Rattle.step_laws.specs.StandsFor.{VectorsStandFor}
 use Rattle.step_laws.specs.StoredSteps.{NumbersStandFor, FreeNumbersStandFor}
 

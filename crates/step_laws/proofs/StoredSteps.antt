@@ -1,14 +1,13 @@
 -- A step of stored numbers by power, row and column is a rounded step of the system that lists them.
-use Rattle.std.specs.Prelude.{◌≡◌, ℕ, suc, pos, [], ◌∷◌, length, ◌<◌, ◌≤◌, ◌-◌}
-use Rattle.std.proofs.Common.{refl, ap, sym, ◌∙◌, subst, inl, inr, arith}
+use Rattle.std.specs.Prelude.{◌≡◌, ℕ, suc, length, ◌<◌, ◌≤◌}
+use Rattle.std.proofs.Common.{sym, ◌∙◌, subst, inl, inr}
 use mathlib.Core.Path.{ap₂}
 use Rattle.std.proofs.lemmas.Bool.{cases_lt}
-use Rattle.frac_laws.specs.Fraction.{Fraction, whole, ◌+ℚ◌, ◌*ℚ◌}
+use Rattle.frac_laws.specs.Fraction.{Fraction, ◌+ℚ◌}
 use Rattle.frac_laws.specs.Sums.{sum_to}
-use Rattle.frac_laws.specs.Lists.{Vector, SameNumbers, number_at, vector_at}
+use Rattle.frac_laws.specs.Lists.{Vector, SameNumbers, number_at}
 use Rattle.frac_laws.proofs.Sums.{sum_to_ext, sum_to_zeros}
 use Rattle.cell_laws.specs.Systems.{System}
-use Rattle.cell_laws.specs.Recurrence.{convolved}
 use Rattle.step_laws.specs.StandsFor.{StandsFor, MatricesStandFor, VectorsStandFor}
 use Rattle.step_laws.specs.RoundedRuns.{IsRoundedDown, IsRoundedRun, IsRoundedStep, unrounded}
 use Rattle.step_laws.specs.StepLaws.{most_numbers}

@@ -16,18 +16,18 @@ use Rattle.step_laws.specs.StepLaws.{most_numbers, IsStartNear}
 -- numbers of matrices by power, row and column: each is at most some units away from the exact one, and beyond
 -- power 11 all are 0
 pub record NumbersStandFor (error d : ℕ) (numbers : (m row col : ℕ) → Fraction) (exact : List Matrix) : Type 0
-    where
-  pub near : (m row col : ℕ) → row < d → col < d
-      → size (entry_at exact m row col -ℚ numbers m row col) ≤ℚ units error
-  pub exact_fit : MatricesFit d exact
-  pub no_more : (m row col : ℕ) → row < d → col < d → 12 ≤ m → numbers m row col ≡ whole (pos 0)
+  where
+    pub near : (m row col : ℕ) → row < d → col < d
+        → size (entry_at exact m row col -ℚ numbers m row col) ≤ℚ units error
+    pub exact_fit : MatricesFit d exact
+    pub no_more : (m row col : ℕ) → row < d → col < d → 12 ≤ m → numbers m row col ≡ whole (pos 0)
 
 -- and numbers of free vectors by power and row
 pub record FreeNumbersStandFor (error d : ℕ) (numbers : (m row : ℕ) → Fraction) (exact : List Vector) : Type 0
-    where
-  pub near : (m row : ℕ) → row < d → size (number_at (vector_at exact m) row -ℚ numbers m row) ≤ℚ units error
-  pub exact_fit : VectorsFit d exact
-  pub no_more : (m row : ℕ) → row < d → 12 ≤ m → numbers m row ≡ whole (pos 0)
+  where
+    pub near : (m row : ℕ) → row < d → size (number_at (vector_at exact m) row -ℚ numbers m row) ≤ℚ units error
+    pub exact_fit : VectorsFit d exact
+    pub no_more : (m row : ℕ) → row < d → 12 ≤ m → numbers m row ≡ whole (pos 0)
 
 -- the stored numbers of a system, by power, row and column, and the free ones by power and row
 pub record StoredNumbers : Type 0 where
