@@ -12,3 +12,4 @@ pub mod PairRadii
 pub mod Listed
 pub mod StoredSteps
 pub mod StoredPairs
+pub mod Samples

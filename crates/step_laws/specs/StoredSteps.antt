@@ -13,8 +13,8 @@ use Rattle.step_laws.specs.StandsFor.{units, entry_at, MatricesFit, VectorsFit}
 use Rattle.step_laws.specs.RoundedRuns.{IsRoundedDown}
 use Rattle.step_laws.specs.StepLaws.{most_numbers, IsStartNear}
 
--- numbers of matrices by power, row and column: each is at most some units away from the exact one, and beyond
--- power 11 all are 0
+-- numbers of matrices by power, row and column: each is at most some units away from the exact one, and all
+-- beyond power 11 are 0
 pub record NumbersStandFor (error d : ℕ) (numbers : (m row col : ℕ) → Fraction) (exact : List Matrix) : Type 0
   where
     pub near : (m row col : ℕ) → row < d → col < d
@@ -25,7 +25,8 @@ pub record NumbersStandFor (error d : ℕ) (numbers : (m row col : ℕ) → Frac
 -- and numbers of free vectors by power and row
 pub record FreeNumbersStandFor (error d : ℕ) (numbers : (m row : ℕ) → Fraction) (exact : List Vector) : Type 0
   where
-    pub near : (m row : ℕ) → row < d → size (number_at (vector_at exact m) row -ℚ numbers m row) ≤ℚ units error
+    pub near : (m row : ℕ) → row < d
+        → size (number_at (vector_at exact m) row -ℚ numbers m row) ≤ℚ units error
     pub exact_fit : VectorsFit d exact
     pub no_more : (m row : ℕ) → row < d → 12 ≤ m → numbers m row ≡ whole (pos 0)
 
@@ -41,26 +42,29 @@ pub record StoredStandFor (s : StoredNumbers) (exact : System) : Type 0 where
   pub matrices : NumbersStandFor 1 s.dimension s.numbers exact.matrices
   pub free : FreeNumbersStandFor 3 s.dimension s.free exact.free
 
--- they stand for an exact pair: the first half's rows and columns come first, the coupling stands in the second
--- half's rows and the first half's columns, and in the first half's rows and the second half's columns all are 0
+-- they stand for an exact pair: the first half's rows and columns come first, the coupling stands in the
+-- second half's rows and the first half's columns, and in the first half's rows and the second half's columns
+-- all numbers are 0
 pub record StoredStandForPair (s : StoredNumbers) (half : ℕ) (exact : CoupledPair) : Type 0 where
   pub halves : s.dimension ≡ half + half
   pub first_dimension : exact.first.dimension ≡ half
   pub second_dimension : exact.second.dimension ≡ half
   pub first : NumbersStandFor 1 half s.numbers exact.first.matrices
   pub first_free : FreeNumbersStandFor 3 half s.free exact.first.free
-  pub second : NumbersStandFor 1 half (λ m row col. s.numbers m (half + row) (half + col)) exact.second.matrices
+  pub second : NumbersStandFor 1 half (λ m row col. s.numbers m (half + row) (half + col))
+      exact.second.matrices
   pub second_free : FreeNumbersStandFor 3 half (λ m row. s.free m (half + row)) exact.second.free
   pub coupling : NumbersStandFor 3 half (λ m row col. s.numbers m (half + row) col) exact.coupling
   pub one_way : (m row col : ℕ) → row < half → col < half → s.numbers m row (half + col) ≡ whole (pos 0)
 
--- at power k and a row: the sum of each stored number times the coefficient that it meets, and the free number
+-- at power k and a row: the sum of each stored number times the coefficient that it meets, and of the free
+-- number
 abbrev pub stored_sum : StoredNumbers → ((k row : ℕ) → Fraction) → (k row : ℕ) → Fraction
 stored_sum s z k row =
     sum_to (suc k) (λ m. sum_to s.dimension (λ col. s.numbers m row col *ℚ z (k - m) col)) +ℚ s.free k row
 
--- 24 coefficients by power and row, each the stored sum divided by k + 1 and rounded down, and the new vector,
--- which is the sum of all 25
+-- 24 coefficients by power and row, each the stored sum divided by k + 1 and rounded down, and the new
+-- vector, which is the sum of all 25
 pub record IsStoredStep (s : StoredNumbers) (mid new : Vector) (z : (k row : ℕ) → Fraction) : Type 0 where
   pub mid_fits : length mid ≤ s.dimension
   pub new_fits : length new ≤ s.dimension
