@@ -1,6 +1,6 @@
 -- Small systems that show that the premises of the laws can be met, with values that were computed by hand
--- or by
--- another program's exact fractions.
+-- or
+-- with another program's exact fractions.
 use Rattle.std.specs.Prelude.{◌≡◌, ℕ, pos, neg_ℤ, [], ◌∷◌}
 use Rattle.frac_laws.specs.Fraction.{Fraction, over, whole}
 use Rattle.frac_laws.specs.Lists.{Vector, number_at}
@@ -42,7 +42,7 @@ forward_system = record {
   free = [];
 }
 
--- the backward system with a second half of its own interest and payments, and a coupling at two powers
+-- the second half of a pair whose first half is the backward system, with interest and payments of its own
 abbrev pub second_system : System
 second_system = record {
   dimension = 2;
@@ -50,6 +50,7 @@ second_system = record {
   free = two (plus 1 256) (plus 1 512) ∷ [];
 }
 
+-- the coupling of the pair is at two powers
 abbrev pub sample_pair : CoupledPair
 sample_pair = record {
   first = backward_system;
@@ -58,7 +59,7 @@ sample_pair = record {
       ∷ (two (plus 0 1) (plus 1 2048) ∷ two (plus 0 1) (plus 0 1) ∷ []) ∷ [];
 }
 
--- each is tame with the least growth that it has
+-- each is tame in its norm with some growth
 abbrev pub BackwardSystemIsTame : Type 0
 BackwardSystemIsTame = IsTame Sup 280319832 backward_system
 
@@ -67,6 +68,16 @@ ForwardSystemIsTame = IsTame Sum 82932358 forward_system
 
 abbrev pub SamplePairIsTame : Type 0
 SamplePairIsTame = IsTamePair 547534606 (over (pos 5) 384) sample_pair
+
+-- and with none that is less
+abbrev pub BackwardGrowthIsLeast : Type 0
+BackwardGrowthIsLeast = ¬ IsTame Sup 280319831 backward_system
+
+abbrev pub ForwardGrowthIsLeast : Type 0
+ForwardGrowthIsLeast = ¬ IsTame Sum 82932357 forward_system
+
+abbrev pub SecondGrowthIsLeast : Type 0
+SecondGrowthIsLeast = ¬ IsTame Sup 547534605 second_system
 
 -- a Taylor value of two numbers
 abbrev pub IsTwo : Vector → Fraction → Fraction → Type 0
@@ -88,7 +99,7 @@ ForwardValueIsExact = IsTwo (taylor_value forward_system (two (plus 3 4) (plus 1
     (plus 81936186107853473577 322818021289917153280)
 
 abbrev pub SecondValueIsExact : Type 0
-SecondValueIsExact =
-    IsTwo (second_taylor_value sample_pair (two (plus 1 1) (minus 1 2)) (two (plus 1 4) (plus 1 2)) 8)
+SecondValueIsExact = IsTwo
+    (second_taylor_value sample_pair (two (plus 1 1) (minus 1 2)) (two (plus 1 4) (plus 1 2)) 8)
     (plus 103981315673341692888045081180529 399309939071892261471461509693440)
     (plus 14198185638538846856939695042003 28522138505135161533675822120960)

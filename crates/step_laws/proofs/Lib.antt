@@ -1,0 +1,15 @@
+pub mod Differences
+pub mod Images
+pub mod Halves
+pub mod Residues
+pub mod Errors
+pub mod Distances
+pub mod Grown
+pub mod StoredNorms
+pub mod Steps
+pub mod PairSteps
+pub mod PairRadii
+pub mod Listed
+pub mod StoredSteps
+pub mod StoredPairs
+pub mod Samples
