@@ -1,5 +1,5 @@
-pub mod StandsFor
 pub mod RoundedRuns
+pub mod Samples
+pub mod StandsFor
 pub mod StepLaws
 pub mod StoredSteps
-pub mod Samples
