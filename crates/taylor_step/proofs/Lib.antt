@@ -3,6 +3,7 @@ pub mod Fits
 pub mod FitsByRows
 pub mod FitsBySums
 pub mod Floors
+pub mod Promise
 pub mod RowProducts
 pub mod Rows
 pub mod Scaled
