@@ -1,3 +1,4 @@
+pub mod Bernstein
 pub mod ClosedChecks
 pub mod Convolution
 pub mod FloorLaws
@@ -9,6 +10,8 @@ pub mod Lists
 pub mod NormLaws
 pub mod Norms
 pub mod OrderLaws
+pub mod PolynomialLaws
+pub mod Polynomials
 pub mod QuotientLaws
 pub mod RatioValue
 pub mod RingLaws

@@ -6,6 +6,7 @@ mod floor_laws;
 mod ledger_laws;
 mod norm_laws;
 mod order_laws;
+mod polynomial_laws;
 mod quotient_laws;
 mod ratio;
 mod ring_laws;
@@ -30,6 +31,10 @@ pub use order_laws::{
     order_is_antisymmetric, order_is_reflexive, order_is_total, order_is_transitive,
     positive_factors_cancel, products_keep_order, products_keep_strict_order, sums_keep_order,
     sums_keep_strict_order,
+};
+pub use polynomial_laws::{
+    denominator_is_factor, multiples_stay_multiples, polynomials_keep_length,
+    polynomials_take_values, shifts_and_stretches_compose,
 };
 pub use quotient_laws::{
     quotients_add, quotients_add_over_one_divisor, quotients_are_below_by_cross,
