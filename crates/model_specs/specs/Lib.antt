@@ -1,0 +1,16 @@
+pub mod Whole
+pub mod Curve
+pub mod Product
+pub mod Payments
+pub mod Names
+pub mod MonthNumbers
+pub mod Growth
+pub mod Ledgers
+pub mod RecordRules
+pub mod ValuationRules
+pub mod Cells
+pub mod Systems
+pub mod Runs
+pub mod Rows
+pub mod Stretches
+pub mod Examples
