@@ -10,7 +10,9 @@ pub mod RecordRules
 pub mod ValuationRules
 pub mod Cells
 pub mod Systems
+pub mod Equations
 pub mod Runs
 pub mod Rows
 pub mod Stretches
 pub mod Examples
+pub mod LedgerInstances
