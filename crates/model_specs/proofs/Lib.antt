@@ -1,5 +1,11 @@
 pub mod ListsByPlace
 pub mod CellTables
 pub mod CellEquations
+pub mod MonthCoefficients
 pub mod Scales
+pub mod LongLedgers
 pub mod LedgerInstances
+pub mod CenturyInstances
+pub mod ExchangeInstances
+pub mod LimitInstances
+pub mod RingInstances

@@ -16,3 +16,5 @@ pub mod Rows
 pub mod Stretches
 pub mod Examples
 pub mod LedgerInstances
+pub mod NumberLaws
+pub mod FlatLaws
