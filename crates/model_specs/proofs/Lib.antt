@@ -5,7 +5,8 @@ pub mod MonthCoefficients
 pub mod Scales
 pub mod LongLedgers
 pub mod LedgerInstances
-pub mod CenturyInstances
-pub mod ExchangeInstances
-pub mod LimitInstances
-pub mod RingInstances
+pub mod FlatCells
+pub mod FlatRuns
+pub mod FlatInstances
+pub mod RunInstances
+pub mod CellShapes

@@ -32,13 +32,19 @@ abbrev pub FlatValueHolds : Type 0
 FlatValueHolds =
     Holds (record { kind = Value; month = 0; state = 0; lo = pos 384000000; hi = pos 384000000 }) flat_annuity 1
 
--- a lump of 100 after a month, and one of 50 at issue, with nothing else paid
+-- a row that says a millionth more holds from no degree on
+abbrev pub HigherValueDoesNotHold : Type 0
+HigherValueDoesNotHold = (least : ℕ) → ¬ Holds
+    (record { kind = Value; month = 0; state = 0; lo = pos 384000001; hi = pos 384000002 }) flat_annuity least
+
+-- 100 after a month, without interest: the reserve at its date does not have it, and the one before does
 abbrev pub LumpAtTheTerm : Type 0
 LumpAtTheTerm = (n : ℕ) →
     let product = steady_product 1 (pos 0) (lump_on 1 (pos 100)) in
     (reserve product (payment_plan product) (suc n) 1 0 ≡ whole (pos 0))
     × (reserve product (payment_plan product) (suc n) 0 0 ≡ whole (pos 100))
 
+-- 50 at issue: the reserve at issue does not have it, and the value just before issue does
 abbrev pub LumpAtIssue : Type 0
 LumpAtIssue = (n : ℕ) →
     let product = steady_product 1 (pos 0) (lump_on 0 (pos 50)) in

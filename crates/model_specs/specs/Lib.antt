@@ -17,4 +17,6 @@ pub mod Stretches
 pub mod Examples
 pub mod LedgerInstances
 pub mod NumberLaws
+pub mod RunInstances
 pub mod FlatLaws
+pub mod ShapeLaws
