@@ -1,19 +1,19 @@
 -- How long the lists of a cell's coefficients are.
-use Rattle.std.specs.Prelude.{◌≡◌, ℕ, zero, suc, ◌+◌, ◌<◌, ◌≤◌, ℤ, pos, Bool, true, false, cond, ◌==◌, ◌&&◌, nat_le}
-use Rattle.std.specs.Prelude.{Option, Some, None, All, filter, find, map, option_map, unwrap_or, List, [], ◌∷◌, length}
+use Rattle.std.specs.Prelude.{◌≡◌, ℕ, zero, suc, ◌≤◌, ℤ, pos, Bool, true, false, cond, ◌==◌, nat_le}
+use Rattle.std.specs.Prelude.{Option, Some, None, All, filter, find, option_map, unwrap_or, List, [], ◌∷◌, length}
 use Rattle.std.specs.Prelude.{slice_index_or, refl}
-use Rattle.std.proofs.Common.{ap, sym, ◌∙◌, arith, lit≤}
-use Rattle.frac_laws.specs.Fraction.{Fraction}
-use Rattle.frac_laws.specs.Polynomials.{all_over, shifted, stretched}
+use Rattle.std.proofs.Common.{ap, ◌∙◌, arith, lit≤}
+use Rattle.std.proofs.lemmas.List.Elements.{All-map}
+use Rattle.frac_laws.specs.Polynomials.{all_over}
 use Rattle.frac_laws.proofs.ListAlgebra.{length-scale_list}
 use Rattle.frac_laws.proofs.Polynomials.{length-shifted, length-stretched}
-use Rattle.model_specs.specs.Whole.{last_or, places}
+use Rattle.model_specs.specs.Whole.{last_or}
 use Rattle.model_specs.specs.Curve.{Piece, piece_at, zero_piece}
-use Rattle.model_specs.specs.Product.{Product, Step, Transition, Sojourn, no_transition, transition_at}
+use Rattle.model_specs.specs.Product.{Product, Step, no_transition, transition_at}
 use Rattle.model_specs.specs.Payments.{Plan, payment_plan, pattern_plan, constant_step, step_at, sojourn_at, sum_at}
 use Rattle.model_specs.specs.Payments.{continuous_pattern, dated_pattern}
 use Rattle.model_specs.specs.RecordRules.{IsWellFormed, IsPayment}
-use Rattle.model_specs.specs.Cells.{Grid, cell_polynomial, per_cell, curve_cell, amount_cell, cell_curves}
+use Rattle.model_specs.specs.Cells.{Grid, cell_polynomial, curve_cell, amount_cell, cell_curves}
 use Rattle.model_specs.specs.Cells.{transition_between}
 use Rattle.model_specs.specs.Equations.{IsQuintic}
 use Rattle.model_specs.specs.ShapeLaws.{CellsAreQuintic}
@@ -111,3 +111,37 @@ plan-quintic grid product plan month cell formed four = record {
       (λ e. amount-four grid (slice_index_or plan.sums e []) month _ cell
       (place-has HasFour plan.sums e [] (nothing (λ step. length step.c ≡ 4)) four.sums));
 }
+
+payment-plan-four : (product : Product) → IsWellFormed product → HasFourEach (payment_plan product)
+payment-plan-four product formed = record {
+  sums = All-map HasFour (λ t. t.sum) product.transitions (λ k d b. given (slice_index_or product.transitions k d).sum
+      (formed.payments.sums k d b));
+  sojourns = λ k d b. (formed.payments.sojourns k d b).four;
+}
+  where
+    given : (steps : List Step) → (1 ≤ length steps → IsPayment product.months steps) → HasFour steps
+    given [] payment = nothing (λ step. length step.c ≡ 4)
+    given (step ∷ steps) payment = (payment (omega arith)).four
+
+pattern-plan-four : (product : Product) → HasFourEach (pattern_plan product)
+pattern-plan-four product =
+    elim (product.pattern.every == 0) as (λ b. HasFourEach
+    (cond b (continuous_pattern product.pattern) (dated_pattern product.pattern))) [
+      | true ↦ record {
+          sums = nothing HasFour;
+          sojourns = All-map (λ s. HasFour s.steps) (λ i. record { state = i;
+            steps = constant_step 0 (pos 1) ∷ constant_step product.pattern.until (pos 0) ∷ [] })
+              product.pattern.payers (λ k d b. two);
+        }
+      | false ↦ record { sums = nothing HasFour; sojourns = nothing (λ s. HasFour s.steps) }
+    ]
+  where
+    two : HasFour (constant_step 0 (pos 1) ∷ constant_step product.pattern.until (pos 0) ∷ [])
+    two zero d b = refl
+    two (suc zero) d b = refl
+    two (suc (suc k)) d b = absurd (omega arith)
+
+pub cells_are_quintic : CellsAreQuintic
+cells_are_quintic grid product month cell formed =
+    (plan-quintic grid product (payment_plan product) month cell formed (payment-plan-four product formed),
+    plan-quintic grid product (pattern_plan product) month cell formed (pattern-plan-four product))

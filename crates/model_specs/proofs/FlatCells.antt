@@ -1,6 +1,6 @@
 -- A cell without interest and transitions, in which a constant is paid, adds it, in every degree from 1 on.
-use Rattle.std.specs.Prelude.{◌≡◌, ℕ, zero, suc, ◌+◌, ◌-◌, ◌<◌, ◌≤◌, ℤ, pos, List, [], ◌∷◌, refl}
-use Rattle.std.proofs.Common.{ap, sym, ◌∙◌, arith}
+use Rattle.std.specs.Prelude.{◌≡◌, ℕ, zero, suc, ◌-◌, ◌<◌, pos, [], ◌∷◌, refl}
+use Rattle.std.proofs.Common.{ap, sym, ◌∙◌}
 use Rattle.frac_laws.specs.Fraction.{Fraction, whole, over, opposite, ◌+ℚ◌, ◌*ℚ◌}
 use Rattle.frac_laws.specs.Sums.{sum_to}
 use Rattle.frac_laws.specs.Lists.{Vector, number_at}
@@ -27,7 +27,7 @@ pub record IsFlatCell (cell : CellCurves) (paid : Fraction) : Type 0 where
   pub constant : (m : ℕ) → sojourn_rate_at cell 0 (suc m) ≡ whole (pos 0)
 
 -- what is 0 when it is taken k + 1 times is 0
-none_of : (k : ℕ) (x : Fraction) → whole (pos (suc k)) *ℚ x ≡ whole (pos 0) → x ≡ whole (pos 0)
+pub none_of : (k : ℕ) (x : Fraction) → whole (pos (suc k)) *ℚ x ≡ whole (pos 0) → x ≡ whole (pos 0)
 none_of k x nothing = sym (times_part k x)
     ∙ ring (whole (pos (suc k)) ∷ over (pos 1) (suc k) ∷ x ∷ []) (hlevel terms) refl
     ∙ ap (λ z. over (pos 1) (suc k) *ℚ z) nothing ∙ ring (over (pos 1) (suc k) ∷ []) (hlevel terms) refl

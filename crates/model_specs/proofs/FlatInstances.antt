@@ -1,14 +1,14 @@
 -- Reserves and rows of products of one state without interest.
-use Rattle.std.specs.Prelude.{◌≡◌, ℕ, zero, suc, ◌-◌, ◌≤◌, ◌^◌, pos, [], ◌∷◌, true, false, refl}
+use Rattle.std.specs.Prelude.{◌≡◌, ℕ, zero, suc, ◌-◌, ◌≤◌, ◌^◌, pos, [], ◌∷◌, refl}
 use Rattle.std.proofs.Common.{ap, subst, ◌∙◌, arith}
 use Rattle.std.proofs.lemmas.Bool.{false≢true}
-use Rattle.frac_laws.specs.Fraction.{whole, over, ◌+ℚ◌, ◌*ℚ◌, ◌-ℚ◌, ◌≤ℚ◌, opposite, is_not_negative}
+use Rattle.frac_laws.specs.Fraction.{whole, ◌+ℚ◌, ◌*ℚ◌, ◌-ℚ◌, ◌≤ℚ◌, opposite, is_not_negative}
 use Rattle.frac_laws.specs.Lists.{number_at}
 use Rattle.frac_laws.proofs.FractionTerms.{ring, terms}
 use Rattle.frac_laws.proofs.Quotients.{whole_suc}
 use Rattle.model_specs.specs.Payments.{payment_plan}
 use Rattle.model_specs.specs.Cells.{Backward, cells_of_32}
-use Rattle.model_specs.specs.Runs.{reserve, first_before_term, value_before_issue}
+use Rattle.model_specs.specs.Runs.{first_before_term, value_before_issue}
 use Rattle.model_specs.specs.Rows.{IsBetween}
 use Rattle.model_specs.specs.Examples.{flat_annuity, lump_on}
 use Rattle.model_specs.specs.FlatLaws.{FlatReserves, FlatValueHolds, HigherValueDoesNotHold, LumpAtTheTerm}

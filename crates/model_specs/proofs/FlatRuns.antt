@@ -1,6 +1,6 @@
 -- A product of one state without interest: what is paid adds up.
-use Rattle.std.specs.Prelude.{◌≡◌, ℕ, zero, suc, ◌+◌, ◌-◌, ◌*◌, ◌<◌, ◌≤◌, ℤ, pos, negsuc, List, [], ◌∷◌, length, refl}
-use Rattle.std.proofs.Common.{ap, sym, ◌∙◌, inl, inr, arith, lit≤, lit<}
+use Rattle.std.specs.Prelude.{◌≡◌, ℕ, zero, suc, ◌+◌, ◌-◌, ◌*◌, ◌≤◌, ℤ, pos, negsuc, List, [], ◌∷◌, length, refl}
+use Rattle.std.proofs.Common.{ap, ◌∙◌, inl, inr, lit≤, lit<}
 use Rattle.std.proofs.Math.Dec.{leb-zero}
 use Rattle.std.proofs.lemmas.Bool.Decides.{eqb_tells}
 use Rattle.frac_laws.specs.Fraction.{Fraction, whole, over, ◌+ℚ◌, ◌*ℚ◌}
@@ -9,13 +9,13 @@ use Rattle.frac_laws.specs.Polynomials.{shifted, stretched}
 use Rattle.frac_laws.proofs.FractionTerms.{ring, terms}
 use Rattle.frac_laws.proofs.Quotients.{over_is}
 use Rattle.frac_laws.proofs.Vectors.{number_at-scale_list, number_at-add_lists}
-use Rattle.model_specs.specs.Curve.{Piece, piece_at}
-use Rattle.model_specs.specs.Product.{Product, Lump}
+use Rattle.model_specs.specs.Curve.{piece_at}
+use Rattle.model_specs.specs.Product.{Lump}
 use Rattle.model_specs.specs.Payments.{payment_plan, constant_step, sojourn_at, lump_at}
 use Rattle.model_specs.specs.Cells.{CellCurves, Backward, cells_of_32, cell_curves}
 use Rattle.model_specs.specs.Systems.{thiele_system, interest_at, sojourn_rate_at}
-use Rattle.model_specs.specs.Runs.{reserve, first_before_term, lump_vector}
-use Rattle.model_specs.specs.Examples.{constant_curve, steady, flat_annuity}
+use Rattle.model_specs.specs.Runs.{first_before_term, lump_vector}
+use Rattle.model_specs.specs.Examples.{constant_curve}
 use Rattle.model_specs.specs.FlatLaws.{steady_product, FlatMonthsAddUp}
 use Rattle.model_specs.proofs.FlatCells.{IsFlatCell, cell_adds, month_adds}
 
@@ -52,11 +52,11 @@ zero-number h b (suc (suc (suc (suc (suc zero))))) = ring (h ∷ b ∷ []) (hlev
 zero-number h b (suc (suc (suc (suc (suc (suc i)))))) = refl
 
 module _ (months : ℕ) (amount : ℤ) (lumps : List Lump) where
-  abbrev flat_cell : ℕ → ℕ → CellCurves
+  abbrev pub flat_cell : ℕ → ℕ → CellCurves
   flat_cell month cell = cell_curves (cells_of_32 Backward) (steady_product months amount lumps)
       (payment_plan (steady_product months amount lumps)) month cell
 
-  abbrev paid : Fraction
+  abbrev pub paid : Fraction
   paid = over (pos 1) 384 *ℚ over amount 1
 
   -- where x is 0 in a cell of a month, in years
@@ -78,7 +78,7 @@ module _ (months : ℕ) (amount : ℤ) (lumps : List Lump) where
       ∙ ap (λ z. over (pos 1) 384 *ℚ z)
       (constant-number (over (negsuc 0) 384) (cell_end month cell) (over amount 1) m))
 
-  flat : (month cell : ℕ) → IsFlatCell (flat_cell month cell) paid
+  pub flat : (month cell : ℕ) → IsFlatCell (flat_cell month cell) paid
   flat month cell = record {
     quintic = record {
       interest = rw (piece-constant (pos 0) month) (lit≤ tt);

@@ -1,12 +1,12 @@
 -- Runs of one state without interest and transitions: what is paid adds up, in every degree from 1 on.
-use Rattle.std.specs.Prelude.{◌≡◌, ℕ, zero, suc, ◌-◌, ◌≤◌, ℤ, pos, List, [], ◌∷◌}
+use Rattle.std.specs.Prelude.{◌≡◌, ℕ, suc, ◌-◌, ◌≤◌, ℤ, pos, List, [], ◌∷◌}
 use Rattle.frac_laws.specs.Fraction.{whole, over, ◌+ℚ◌, ◌*ℚ◌}
 use Rattle.frac_laws.specs.Lists.{number_at}
 use Rattle.model_specs.specs.Product.{Product, Lump}
 use Rattle.model_specs.specs.Payments.{payment_plan, lump_at}
 use Rattle.model_specs.specs.Cells.{Backward, cells_of_32}
 use Rattle.model_specs.specs.Runs.{reserve, first_before_term, value_before_issue}
-use Rattle.model_specs.specs.Rows.{Row, Value, Holds}
+use Rattle.model_specs.specs.Rows.{Value, Holds}
 use Rattle.model_specs.specs.Examples.{one_state, steady, flat_annuity, lump_on}
 
 -- a state in which an amount a year is paid, and lumps

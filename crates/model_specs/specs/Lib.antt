@@ -14,9 +14,10 @@ pub mod Equations
 pub mod Runs
 pub mod Rows
 pub mod Stretches
+pub mod NumberLaws
+pub mod ShapeLaws
+pub mod MomentLaws
+pub mod FlatLaws
 pub mod Examples
 pub mod LedgerInstances
-pub mod NumberLaws
 pub mod RunInstances
-pub mod FlatLaws
-pub mod ShapeLaws
