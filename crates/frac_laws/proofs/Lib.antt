@@ -35,9 +35,3 @@ pub mod Sums
 pub mod Vectors
 pub mod WholeProducts
 pub mod WorkedCalls
-pub mod Lengths
-pub mod WholeProducts
-pub mod WorkedCalls
-pub mod ListAlgebra
-pub mod Polynomials
-pub mod PolynomialFacts
