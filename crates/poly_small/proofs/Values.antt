@@ -162,3 +162,9 @@ pub nothing_left : (p weights : List ℤ) (x : ℕ) → length weights ≡ lengt
 nothing_left p weights x h =
     sym (ap (λ q. whole_value_at q x)
     (drop_all (length p) (weighted p weights) (omega (arith, length-weighted p weights h))))
+
+-- a coefficient is no greater than the value of sizes at 1
+pub coefficient_within : (p : List ℤ) (i : ℕ) → i < length p → unsigned_abs (get_or p i (pos 0)) ≤ value_of_sizes p 1
+coefficient_within [] i inside = absurd (omega arith)
+coefficient_within (c ∷ p) zero inside = omega arith
+coefficient_within (c ∷ p) (suc i) inside = omega (arith, coefficient_within p i (omega arith))
