@@ -16,18 +16,23 @@ use Rattle.poly_small.proofs.Sixes.{six_of, six_are_all, over-product, over-whol
 -- the coefficients from 0 on, with the column 0 of Pascal's triangle as weights
 abbrev pub row-0 : List ℤ → List ℤ
 row-0 p = weighted (take 6 (drop 0 p)) (pos 1 ∷ pos 1 ∷ pos 1 ∷ pos 1 ∷ pos 1 ∷ pos 1 ∷ [])
+
 -- the coefficients from 1 on, with the column 1 of Pascal's triangle as weights
 abbrev pub row-1 : List ℤ → List ℤ
 row-1 p = weighted (take 5 (drop 1 p)) (pos 1 ∷ pos 2 ∷ pos 3 ∷ pos 4 ∷ pos 5 ∷ [])
+
 -- the coefficients from 2 on, with the column 2 of Pascal's triangle as weights
 abbrev pub row-2 : List ℤ → List ℤ
 row-2 p = weighted (take 4 (drop 2 p)) (pos 1 ∷ pos 3 ∷ pos 6 ∷ pos 10 ∷ [])
+
 -- the coefficients from 3 on, with the column 3 of Pascal's triangle as weights
 abbrev pub row-3 : List ℤ → List ℤ
 row-3 p = weighted (take 3 (drop 3 p)) (pos 1 ∷ pos 4 ∷ pos 10 ∷ [])
+
 -- the coefficients from 4 on, with the column 4 of Pascal's triangle as weights
 abbrev pub row-4 : List ℤ → List ℤ
 row-4 p = weighted (take 2 (drop 4 p)) (pos 1 ∷ pos 5 ∷ [])
+
 entry-0 : (c0 c1 c2 c3 c4 c5 : ℤ) (k d : ℕ)
     → over (whole_value_at (row-0 (c0 ∷ c1 ∷ c2 ∷ c3 ∷ c4 ∷ c5 ∷ [])) k) d
     ≡ number_at (shifted (whole (pos k)) (all_over d (c0 ∷ c1 ∷ c2 ∷ c3 ∷ c4 ∷ c5 ∷ []))) 0
@@ -36,6 +41,7 @@ entry-0 c0 c1 c2 c3 c4 c5 k d =
     ∙ simp over-product
     (ring (over c0 d ∷ over c1 d ∷ over c2 d ∷ over c3 d ∷ over c4 d ∷ over c5 d ∷ whole (pos k) ∷ [])
     (hlevel terms) refl)
+
 entry-1 : (c0 c1 c2 c3 c4 c5 : ℤ) (k d : ℕ)
     → over (whole_value_at (row-1 (c0 ∷ c1 ∷ c2 ∷ c3 ∷ c4 ∷ c5 ∷ [])) k) d
     ≡ number_at (shifted (whole (pos k)) (all_over d (c0 ∷ c1 ∷ c2 ∷ c3 ∷ c4 ∷ c5 ∷ []))) 1
@@ -44,6 +50,7 @@ entry-1 c0 c1 c2 c3 c4 c5 k d =
     ∙ simp over-product
     (ring (over c0 d ∷ over c1 d ∷ over c2 d ∷ over c3 d ∷ over c4 d ∷ over c5 d ∷ whole (pos k) ∷ [])
     (hlevel terms) refl)
+
 entry-2 : (c0 c1 c2 c3 c4 c5 : ℤ) (k d : ℕ)
     → over (whole_value_at (row-2 (c0 ∷ c1 ∷ c2 ∷ c3 ∷ c4 ∷ c5 ∷ [])) k) d
     ≡ number_at (shifted (whole (pos k)) (all_over d (c0 ∷ c1 ∷ c2 ∷ c3 ∷ c4 ∷ c5 ∷ []))) 2
@@ -52,6 +59,7 @@ entry-2 c0 c1 c2 c3 c4 c5 k d =
     ∙ simp over-product
     (ring (over c0 d ∷ over c1 d ∷ over c2 d ∷ over c3 d ∷ over c4 d ∷ over c5 d ∷ whole (pos k) ∷ [])
     (hlevel terms) refl)
+
 entry-3 : (c0 c1 c2 c3 c4 c5 : ℤ) (k d : ℕ)
     → over (whole_value_at (row-3 (c0 ∷ c1 ∷ c2 ∷ c3 ∷ c4 ∷ c5 ∷ [])) k) d
     ≡ number_at (shifted (whole (pos k)) (all_over d (c0 ∷ c1 ∷ c2 ∷ c3 ∷ c4 ∷ c5 ∷ []))) 3
@@ -60,6 +68,7 @@ entry-3 c0 c1 c2 c3 c4 c5 k d =
     ∙ simp over-product
     (ring (over c0 d ∷ over c1 d ∷ over c2 d ∷ over c3 d ∷ over c4 d ∷ over c5 d ∷ whole (pos k) ∷ [])
     (hlevel terms) refl)
+
 entry-4 : (c0 c1 c2 c3 c4 c5 : ℤ) (k d : ℕ)
     → over (whole_value_at (row-4 (c0 ∷ c1 ∷ c2 ∷ c3 ∷ c4 ∷ c5 ∷ [])) k) d
     ≡ number_at (shifted (whole (pos k)) (all_over d (c0 ∷ c1 ∷ c2 ∷ c3 ∷ c4 ∷ c5 ∷ []))) 4
@@ -68,12 +77,14 @@ entry-4 c0 c1 c2 c3 c4 c5 k d =
     ∙ simp over-product
     (ring (over c0 d ∷ over c1 d ∷ over c2 d ∷ over c3 d ∷ over c4 d ∷ over c5 d ∷ whole (pos k) ∷ [])
     (hlevel terms) refl)
+
 entry-5 : (c0 c1 c2 c3 c4 c5 : ℤ) (k d : ℕ)
     → over c5 d
     ≡ number_at (shifted (whole (pos k)) (all_over d (c0 ∷ c1 ∷ c2 ∷ c3 ∷ c4 ∷ c5 ∷ []))) 5
 entry-5 c0 c1 c2 c3 c4 c5 k d =
     ring (over c0 d ∷ over c1 d ∷ over c2 d ∷ over c3 d ∷ over c4 d ∷ over c5 d ∷ whole (pos k) ∷ [])
     (hlevel terms) refl
+
 entries : (c0 c1 c2 c3 c4 c5 : ℤ) (k d : ℕ)
     → all_over d
     (whole_value_at (row-0 (c0 ∷ c1 ∷ c2 ∷ c3 ∷ c4 ∷ c5 ∷ [])) k ∷ whole_value_at (row-1 (c0 ∷ c1 ∷ c2 ∷ c3 ∷ c4 ∷ c5 ∷ [])) k ∷ whole_value_at (row-2 (c0 ∷ c1 ∷ c2 ∷ c3 ∷ c4 ∷ c5 ∷ [])) k ∷
@@ -110,7 +121,7 @@ moved_factor : (x g v : ℕ) → x * (g * v) ≡ g * (x * v)
 moved_factor x g v = sym (mul_assoc x g v) ∙ ap (λ z. z * v) (mul_comm x g) ∙ mul_assoc g x v
 
 -- weights make the value of sizes at most the greatest weight times as great
-weighted_within : (p weights : List ℤ) (g x : ℕ) → greatest_size weights ≤ g
+pub weighted_within : (p weights : List ℤ) (g x : ℕ) → greatest_size weights ≤ g
     → value_of_sizes (weighted p weights) x ≤ g * value_of_sizes p x
 weighted_within [] weights g x h = omega arith
 weighted_within (c ∷ p) [] g x h = omega arith
@@ -143,7 +154,7 @@ pub row_fits : (p weights : List ℤ) (m n k : ℕ) → greatest_size weights �
     → value_of_sizes (weighted (take n (drop m p)) weights) (max k 1) < 2 ^ 126
 row_fits p weights m n k h fits = omega (arith, row_within p weights m n 10 k h)
 
-row_size : (p weights : List ℤ) (m n g k : ℕ) → greatest_size weights ≤ g
+pub row_size : (p weights : List ℤ) (m n g k : ℕ) → greatest_size weights ≤ g
     → unsigned_abs (whole_value_at (weighted (take n (drop m p)) weights) k) ≤ g * value_of_sizes p (max k 1)
 row_size p weights m n g k h =
     let row = weighted (take n (drop m p)) weights in
@@ -202,3 +213,7 @@ pub given_rows_within : (p : List ℤ) (k : ℕ) (r0 r1 r2 r3 r4 : ℤ) → leng
 given_rows_within p k r0 r1 r2 r3 r4 h rows =
     let P : List ℤ → Type 0 = λ q. value_of_sizes q 1 ≤ 32 * value_of_sizes p (max k 1) in
     subst P (sym (list_of_rows p k r0 r1 r2 r3 r4 rows)) (rows_within p k h)
+
+pub weighted_fits : (p weights : List ℤ) (k : ℕ) → greatest_size weights ≤ 10
+    → 10 * value_of_sizes p (max k 1) < 2 ^ 126 → value_of_sizes (weighted p weights) (max k 1) < 2 ^ 126
+weighted_fits p weights k h fits = omega (arith, weighted_within p weights 10 (max k 1) h)

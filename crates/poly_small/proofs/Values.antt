@@ -69,8 +69,11 @@ pub product_fits : (p : List ℤ) (i x : ℕ) (sum factor : ℤ) → factor ≡ 
     → sum ≡ whole_value_at (drop i p) x → value_of_sizes p (max x 1) < 2 ^ 126 → FitsSigned w128 (sum *ℤ factor)
 product_fits p i x sum factor e some inside value fits =
     let within : unsigned_abs sum ≤ value_of_sizes (drop i p) (max x 1) =
-    rw value (omega (arith, whole_value-size (drop i p) x,
-    value_of_sizes-grows (drop i p) x (max x 1) (omega arith))) in
+    rw value (omega (
+      arith,
+      whole_value-size (drop i p) x,
+      value_of_sizes-grows (drop i p) x (max x 1) (omega arith),
+    )) in
     rw e
     (fits_signed_from_abs w128 (sum *ℤ pos x)
     (omega (
@@ -85,8 +88,12 @@ pub tail_fits : (p : List ℤ) (i x : ℕ) (sum : ℤ) → sum ≡ whole_value_a
     → value_of_sizes p (max x 1) < 2 ^ 126 → FitsSigned w128 sum
 tail_fits p i x sum value fits =
     fits_signed_from_abs w128 sum
-    (rw value (omega (arith, whole_value-size (drop i p) x,
-    value_of_sizes-grows (drop i p) x (max x 1) (omega arith), value_of_sizes-drop p i x)))
+    (rw value (omega (
+      arith,
+      whole_value-size (drop i p) x,
+      value_of_sizes-grows (drop i p) x (max x 1) (omega arith),
+      value_of_sizes-drop p i x,
+    )))
 
 -- a coefficient is no greater than the value of sizes
 pub number_fits : (p : List ℤ) (i x : ℕ) → i < length p → value_of_sizes p (max x 1) < 2 ^ 126

@@ -1,11 +1,11 @@
 //! Polynomials of degree at most five.
 
-use crate::value::weighted_value;
-
 ghost use Rattle.std.specs.Prelude.{◌≡◌, ℕ, ◌+◌, ◌*◌, ◌^◌, ◌<◌, ◌≤◌, pos, max, ◌*ℤ◌, unsigned_abs};
 ghost use Rattle.frac_laws.specs.Fraction.{over, whole};
 ghost use Rattle.frac_laws.specs.Polynomials.{all_over, shifted, stretched, reflected};
 ghost use Rattle.poly_small.specs.WholePolynomials.{value_of_sizes, in_units_of};
+
+use crate::value::weighted_value;
 
 /// `c[0] + c[1] x + .. + c[5] x^5`: whole numbers over a denominator that the caller keeps.
 #[derive(Clone, Copy, Debug, PartialEq, Eq)]
@@ -29,10 +29,8 @@ impl Poly {
         requires factor { unit ^ 5 < 2 ^ 126 }
         requires fits { value_of_sizes (in_units_of unit self.now.c) 1 < 2 ^ 126 }
         ensures coefficients { result.c ≡ in_units_of unit self.now.c }
-        ensures polynomial {
-            (den : ℕ) → 1 ≤ den → 1 ≤ unit
-                → all_over (den * unit ^ 5) result.c ≡ stretched (over (pos 1) unit) (all_over den self.now.c)
-        }
+        ensures polynomial { (den : ℕ) → 1 ≤ den → 1 ≤ unit
+            → all_over (den * unit ^ 5) result.c ≡ stretched (over (pos 1) unit) (all_over den self.now.c) }
     {
         let c = &self.c;
         Poly {
@@ -77,6 +75,29 @@ impl Poly {
                 weighted_value(&c[4..], &[1, 5], k),
                 c[5],
             ],
+        }
+    }
+}
+
+#[cfg(test)]
+mod tests {
+    use super::*;
+
+    const SAMPLE: Poly = Poly {
+        c: [1, -1, 2, 0, 0, 1],
+    };
+
+    #[test]
+    fn expansions(rt: HostRuntime) {
+        // from expansions outside the program
+        let cases = [
+            (SAMPLE.shift(2).c, [39, 87, 82, 40, 10, 1]),
+            (SAMPLE.shift(0).c, SAMPLE.c),
+            (SAMPLE.reflect().c, [1, 1, 2, 0, 0, -1]),
+            (SAMPLE.in_units(12).c, [248_832, -20_736, 3456, 0, 0, 1]),
+        ];
+        for (found, wanted) in cases {
+            assert_eq!(rt; found, wanted);
         }
     }
 }
