@@ -1,15 +1,15 @@
 -- The Bernstein coefficients of a month, ten times C(j, i) / C(5, i) as weights.
-use Rattle.std.proofs.Common.{◌≡◌, ℕ, zero, suc, ◌+◌, ◌*◌, ◌^◌, ◌<◌, ◌≤◌, ℤ, pos, List, [], ◌∷◌, length, max}
+use Rattle.std.proofs.Common.{◌≡◌, ℕ, zero, suc, ◌*◌, ◌^◌, ◌<◌, ◌≤◌, ℤ, pos, List, [], ◌∷◌, length, max}
 use Rattle.std.proofs.Common.{take, drop, get_or, arith, refl, ap, sym, subst, ◌∙◌}
 use mathlib.Core.Path.{ap₂}
 use Rattle.std.specs.Prelude.{unsigned_abs}
-use Rattle.frac_laws.specs.Fraction.{Fraction, over, whole, ◌+ℚ◌, ◌*ℚ◌}
+use Rattle.frac_laws.specs.Fraction.{Fraction, over, whole, ◌*ℚ◌}
 use Rattle.frac_laws.specs.Polynomials.{all_over, shifted, stretched}
 use Rattle.frac_laws.specs.Bernstein.{bernstein_coefficient, bernstein_coefficients}
 use Rattle.frac_laws.proofs.FractionTerms.{ring, terms}
 use Rattle.frac_laws.proofs.Quotients.{over_is}
 use Rattle.frac_laws.proofs.Polynomials.{shifted-stretched}
-use Rattle.poly_small.specs.WholePolynomials.{whole_value_at, value_of_sizes, weighted, in_units_of}
+use Rattle.poly_small.specs.WholePolynomials.{whole_value_at, value_of_sizes, weighted}
 use Rattle.poly_small.proofs.Values.{value_of_sizes-grows, whole_value-size}
 use Rattle.poly_small.proofs.Sixes.{six_are_all, over-product, over-whole_value}
 use Rattle.poly_small.proofs.Shifts.{greatest_size, weighted_within, row_size}

@@ -1,17 +1,17 @@
 -- The rows of a shift: the columns of Pascal's triangle as weights.
-use Rattle.std.proofs.Common.{◌≡◌, ℕ, suc, ◌+◌, ◌*◌, ◌^◌, ◌<◌, ◌≤◌, ℤ, pos, ◌*ℤ◌, List, [], ◌∷◌, length, max, zero}
+use Rattle.std.proofs.Common.{◌≡◌, ℕ, suc, ◌*◌, ◌^◌, ◌<◌, ◌≤◌, ℤ, pos, List, [], ◌∷◌, length, max, zero}
 use Rattle.std.proofs.Common.{take, drop, get_or, get_or-drop, arith, refl, ap, sym, subst, ◌∙◌}
 use mathlib.Core.Path.{ap₂}
 use Rattle.std.specs.Prelude.{unsigned_abs}
 use Rattle.std.proofs.Math.Nat.{mul_assoc, mul_comm, mul-le-mul_left, mul-le-mul_right}
 use Rattle.std.proofs.lemmas.Int.{unsigned_abs-mul}
-use Rattle.frac_laws.specs.Fraction.{Fraction, over, whole, ◌+ℚ◌, ◌*ℚ◌}
+use Rattle.frac_laws.specs.Fraction.{over, whole}
 use Rattle.frac_laws.specs.Lists.{number_at}
-use Rattle.frac_laws.specs.Polynomials.{value_at, all_over, shifted}
+use Rattle.frac_laws.specs.Polynomials.{all_over, shifted}
 use Rattle.frac_laws.proofs.FractionTerms.{ring, terms}
 use Rattle.poly_small.specs.WholePolynomials.{whole_value_at, value_of_sizes, weighted}
 use Rattle.poly_small.proofs.Values.{value_of_sizes-grows, value_of_sizes-drop, whole_value-size}
-use Rattle.poly_small.proofs.Sixes.{six_of, six_are_all, over-product, over-whole_value}
+use Rattle.poly_small.proofs.Sixes.{six_are_all, over-product, over-whole_value}
 
 -- the coefficients from 0 on, with the column 0 of Pascal's triangle as weights
 abbrev pub row-0 : List ℤ → List ℤ

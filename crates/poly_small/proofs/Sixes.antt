@@ -1,8 +1,7 @@
 -- Lists of six, as arrays of six are, and whole numbers over a denominator.
-use Rattle.std.proofs.Common.{◌≡◌, ℕ, zero, suc, ℤ, pos, ◌+ℤ◌, ◌*ℤ◌, List, [], ◌∷◌, length, get_or}
+use Rattle.std.proofs.Common.{◌≡◌, ℕ, ℤ, pos, ◌*ℤ◌, List, [], ◌∷◌, length, get_or}
 use Rattle.std.proofs.Common.{arith, refl, ap, sym, ◌∙◌}
-use mathlib.Core.Path.{ap₂}
-use Rattle.frac_laws.specs.Fraction.{Fraction, over, whole, ◌+ℚ◌, ◌*ℚ◌}
+use Rattle.frac_laws.specs.Fraction.{over, whole, ◌+ℚ◌, ◌*ℚ◌}
 use Rattle.frac_laws.specs.Polynomials.{value_at, all_over}
 use Rattle.frac_laws.proofs.FractionTerms.{ring, terms}
 use Rattle.frac_laws.proofs.Quotients.{over_is, over_add, whole_mul}

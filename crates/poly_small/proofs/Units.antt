@@ -1,12 +1,12 @@
 -- Coefficients in other units, and reflected ones.
-use Rattle.std.proofs.Common.{◌≡◌, ℕ, zero, suc, ◌+◌, ◌*◌, ◌^◌, ◌<◌, ◌≤◌, ℤ, pos, negsuc, neg_ℤ, ◌*ℤ◌, ◌-ℤ◌, FitsSigned}
+use Rattle.std.proofs.Common.{◌≡◌, ℕ, zero, suc, ◌*◌, ◌^◌, ◌<◌, ◌≤◌, ℤ, pos, ◌*ℤ◌, ◌-ℤ◌, FitsSigned}
 use Rattle.std.proofs.Common.{List, [], ◌∷◌, length, get_or, arith, refl, ap, sym, subst, ◌∙◌}
 use mathlib.Core.Path.{ap₂}
 use Rattle.std.specs.Prelude.{unsigned_abs}
 use Rattle.std.specs.Int.{w128}
 use Rattle.std.proofs.Math.Nat.{mul_assoc, one-le-pow, pow-le-pow_right, pow-zero, pow-suc}
 use Rattle.std.proofs.lemmas.Int.{ints, unsigned_abs-mul, fits_signed_from_abs}
-use Rattle.frac_laws.specs.Fraction.{Fraction, over, whole, opposite, ◌-ℚ◌, ◌*ℚ◌}
+use Rattle.frac_laws.specs.Fraction.{over, opposite, ◌-ℚ◌, ◌*ℚ◌}
 use Rattle.frac_laws.specs.Lists.{scale_list}
 use Rattle.frac_laws.specs.Polynomials.{all_over, stretched, reflected}
 use Rattle.frac_laws.proofs.FractionTerms.{ring, terms}

@@ -1,6 +1,6 @@
 -- Values of polynomials with whole coefficients, and their sizes.
 use Rattle.std.proofs.Common.{◌≡◌, ℕ, zero, suc, ◌+◌, ◌*◌, ◌^◌, ◌<◌, ◌≤◌, ℤ, pos, ◌+ℤ◌, ◌*ℤ◌, FitsSigned}
-use Rattle.std.proofs.Common.{List, [], ◌∷◌, length, drop, get_or, arith, add-one, refl, ap, sym, ◌∙◌, ◌-◌, max}
+use Rattle.std.proofs.Common.{List, [], ◌∷◌, length, drop, get_or, arith, refl, ap, sym, ◌∙◌, ◌-◌, max}
 use Rattle.std.specs.Prelude.{unsigned_abs}
 use Rattle.std.specs.Int.{w128}
 use Rattle.std.proofs.Math.Nat.{mul-le-mul_left, mul-le-mul_right}

@@ -1,4 +1,4 @@
-use Rattle.std.proofs.Common.{◌≡◌, ℤ, List, pos, [], ◌∷◌, length, FitsSigned, to_z, of_z, rules, arith}
+use Rattle.std.proofs.Common.{◌≡◌, pos, [], ◌∷◌, length, FitsSigned, to_z, of_z, rules, arith}
 use Rattle.std.specs.Int.{w128}
 use Rattle.std.proofs.lemmas.Int.{to_z-of_z}
 use Rattle.poly_small.proofs.Shifts.{row_fits, weighted_fits}

@@ -1,4 +1,3 @@
-use Rattle.std.proofs.Common.{rules}
 use Rattle.frac_laws.specs.Polynomials.{all_over}
 use Rattle.poly_small.specs.WholePolynomials.{in_units_of}
 use Rattle.poly_small.proofs.Months.{month_coefficients, month_sizes, units_within, shift_within, bernstein_within}

@@ -1,4 +1,4 @@
-use Rattle.std.proofs.Common.{◌≡◌, pos, ◌-ℤ◌, length, get_or, FitsSigned, rules, arith}
+use Rattle.std.proofs.Common.{◌≡◌, pos, length, get_or, FitsSigned, rules, arith}
 use Rattle.std.specs.Int.{w128}
 use Rattle.std.proofs.lemmas.Int.{to_z-of_z}
 use Rattle.poly_small.proofs.Units.{turned_is_reflected, turned_sizes, turned_fits}

@@ -1,4 +1,4 @@
-use Rattle.std.proofs.Common.{◌≡◌, ℤ, List, pos, [], ◌∷◌, length, get_or, max, FitsSigned, rules, arith, refl}
+use Rattle.std.proofs.Common.{◌≡◌, pos, [], ◌∷◌, length, get_or, FitsSigned, rules, arith}
 use Rattle.std.specs.Int.{w128}
 use Rattle.std.proofs.lemmas.Int.{to_z-of_z}
 use Rattle.poly_small.proofs.Shifts.{RowsAre, row_fits, given_rows_are_shift, given_rows_within}
