@@ -12,3 +12,6 @@ pub mod FirstOrder
 pub mod Growth
 pub mod Response
 pub mod Samples
+pub mod Dimensions
+pub mod Errors
+pub mod Solutions

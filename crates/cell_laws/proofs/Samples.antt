@@ -59,15 +59,25 @@ pub forward_value_is_exact : ForwardValueIsExact
 unfolding ◌+ℚ◌ ◌*ℚ◌
 forward_value_is_exact = (sound refl, sound refl)
 
-first_number : number_at (second_taylor_value sample_pair (two (plus 1 1) (minus 1 2)) (two (plus 1 4) (plus 1 2)) 8) 0
+first_number : number_at (second_taylor_value sample_pair (two (plus 1 1) (minus 1 2))
+    (two (plus 1 4) (plus 1 2)) 8) 0
     ≡ plus 103981315673341692888045081180529 399309939071892261471461509693440
 unfolding ◌+ℚ◌ ◌*ℚ◌
-first_number = sound {b = record { top = pos 103981315673341692888045081180529; below = pred 399309939071892261471461509693440 }} refl
+first_number = sound
+    {b = record {
+      top = pos 103981315673341692888045081180529;
+      below = pred 399309939071892261471461509693440;
+    }} refl
 
-second_number : number_at (second_taylor_value sample_pair (two (plus 1 1) (minus 1 2)) (two (plus 1 4) (plus 1 2)) 8) 1
+second_number : number_at (second_taylor_value sample_pair (two (plus 1 1) (minus 1 2))
+    (two (plus 1 4) (plus 1 2)) 8) 1
     ≡ plus 14198185638538846856939695042003 28522138505135161533675822120960
 unfolding ◌+ℚ◌ ◌*ℚ◌
-second_number = sound {b = record { top = pos 14198185638538846856939695042003; below = pred 28522138505135161533675822120960 }} refl
+second_number = sound
+    {b = record {
+      top = pos 14198185638538846856939695042003;
+      below = pred 28522138505135161533675822120960;
+    }} refl
 
 pub second_value_is_exact : SecondValueIsExact
 second_value_is_exact = (first_number, second_number)

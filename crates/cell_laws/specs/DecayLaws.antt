@@ -16,10 +16,14 @@ norms norm y k = norm_of_vector norm (y k)
 abbrev pub DecaysBelow : Norm → Fraction → (ℕ → Vector) → Type 0
 DecaysBelow norm bound y = (k : ℕ) → weighted (norms norm y) k ≤ℚ bound
 
--- |y_25| + |y_26| + .. is at most 1 / parts of a unit of 2^-64, however many terms are added
+-- one of some parts of a unit of 2^-64
+abbrev pub unit_part : ℕ → Fraction
+unit_part parts = over (pos 1) (parts * 2 ^ 64)
+
+-- |y_25| + |y_26| + .. is at most one of some parts of a unit, however many terms are added
 abbrev pub HasTailBelow : Norm → ℕ → (ℕ → Vector) → Type 0
 HasTailBelow norm parts y =
-    (terms : ℕ) → sum_to terms (λ i. norm_of_vector norm (y (25 + i))) ≤ℚ over (pos 1) (parts * 2 ^ 64)
+    (terms : ℕ) → sum_to terms (λ i. norm_of_vector norm (y (25 + i))) ≤ℚ unit_part parts
 
 -- a tame system from a start of norm at most 2
 abbrev pub CoefficientsDecay : Type 0

@@ -15,7 +15,7 @@ pub record IsDriven (n : ℕ) (a f v : ℕ → Fraction) : Type 0 where
   pub values : IsNatural v
   pub step : (k : ℕ) → k < n → whole (pos (suc k)) *ℚ v (suc k) ≤ℚ convolution a v k +ℚ f k
 
--- bounds under which a driven sequence decays: alpha of the weighted factors, one of f_0 and one of the
+-- bounds under which a driven sequence decays: alpha of the weighted factors, one of f_0, one of the
 -- weighted
 -- later f_k, one of the start, and the bound that the weighted sequence then keeps
 pub record CanDecay (n : ℕ) (a f v : ℕ → Fraction) (alpha first later start bound : Fraction) : Type 0 where

@@ -18,9 +18,8 @@ later_powers norm matrices n =
 abbrev pub growth_factor : Norm → ℕ → System → ℕ → Fraction
 growth_factor norm kappa40 s n = whole (pos 1) +ℚ growth_of kappa40 +ℚ later_powers norm s.matrices n
 
--- the homogeneous Taylor value of degree n of a tame system is at most (1 + kappa) times the start, where
--- no A_m with
--- m at n or above is other than 0; else with the further term
+-- the homogeneous Taylor value of degree n of a tame system is at most (1 + kappa) times its start, but for
+-- the further term where an A_m with m at n or above is other than 0
 abbrev pub CellsGrow : Type 0
 CellsGrow = (norm : Norm) (kappa40 : ℕ) (s : System) (e : Vector) (n : ℕ) → IsTame norm kappa40 s
     → length e ≤ s.dimension
@@ -40,8 +39,7 @@ SecondHalvesRespond =
     → sum_to (suc n) (λ k. norm_of_vector Sup (second_coefficient (homogeneous_pair p) e [] k))
     ≤ℚ c *ℚ norm_of_vector Sup e
 
--- the second half of a homogeneous tame pair grows by its own growth and by c times the start of the first
--- half
+-- the second half of a homogeneous tame pair grows by its own growth, and takes c times the first's start
 abbrev pub PairsGrow : Type 0
 PairsGrow = (kappa40 : ℕ) (c : Fraction) (p : CoupledPair) (e d : Vector) (n : ℕ) → IsTamePair kappa40 c p
     → length d ≤ p.second.dimension

@@ -7,3 +7,5 @@ pub mod ScalarLaws
 pub mod DecayLaws
 pub mod GrowthLaws
 pub mod Samples
+pub mod ErrorLaws
+pub mod Solutions

@@ -9,13 +9,11 @@ pub record CoupledPair : Type 0 where
   pub second : System
   pub coupling : List Matrix
 
--- what the second half receives at power k: C_0 w_k + .. + C_k w_0 + g_k, w being the first half's
--- coefficients
+-- what the second half receives at power k from the first half's coefficients: C_0 w_k + .. + C_k w_0 + g_k
 abbrev pub received : CoupledPair → Vector → ℕ → Vector
 received p w k = add_lists (sum_of_images p.coupling (coefficients p.first w k)) (vector_at p.second.free k)
 
--- the second half's coefficients z_k, .., z_0 from the starts w of the first half and z of the second, the
--- newest first
+-- the second half's coefficients z_k, .., z_0, newest first, from the starts w and z of the two halves
 abbrev pub second_coefficients : CoupledPair → Vector → Vector → ℕ → List Vector
 second_coefficients p w z = run p.second.matrices (received p w) z
 

@@ -1,6 +1,6 @@
 -- Small systems that show that the premises of the laws can be met, with values that were computed by hand
--- or by
--- another program's exact fractions.
+-- or
+-- with another program's exact fractions.
 use Rattle.std.specs.Prelude.{◌≡◌, ℕ, pos, neg_ℤ, [], ◌∷◌}
 use Rattle.frac_laws.specs.Fraction.{Fraction, over, whole}
 use Rattle.frac_laws.specs.Lists.{Vector, number_at}
@@ -42,7 +42,7 @@ forward_system = record {
   free = [];
 }
 
--- the backward system with a second half of its own interest and payments, and a coupling at two powers
+-- the second half of a pair whose first half is the backward system, with interest and payments of its own
 abbrev pub second_system : System
 second_system = record {
   dimension = 2;
@@ -50,6 +50,7 @@ second_system = record {
   free = two (plus 1 256) (plus 1 512) ∷ [];
 }
 
+-- the coupling of the pair is at two powers
 abbrev pub sample_pair : CoupledPair
 sample_pair = record {
   first = backward_system;
@@ -62,6 +63,7 @@ sample_pair = record {
 abbrev pub BackwardSystemIsTame : Type 0
 BackwardSystemIsTame = IsTame Sup 280319832 backward_system
 
+-- (the forward one in the norm Sum)
 abbrev pub ForwardSystemIsTame : Type 0
 ForwardSystemIsTame = IsTame Sum 82932358 forward_system
 
@@ -88,7 +90,7 @@ ForwardValueIsExact = IsTwo (taylor_value forward_system (two (plus 3 4) (plus 1
     (plus 81936186107853473577 322818021289917153280)
 
 abbrev pub SecondValueIsExact : Type 0
-SecondValueIsExact =
-    IsTwo (second_taylor_value sample_pair (two (plus 1 1) (minus 1 2)) (two (plus 1 4) (plus 1 2)) 8)
+SecondValueIsExact = IsTwo
+    (second_taylor_value sample_pair (two (plus 1 1) (minus 1 2)) (two (plus 1 4) (plus 1 2)) 8)
     (plus 103981315673341692888045081180529 399309939071892261471461509693440)
     (plus 14198185638538846856939695042003 28522138505135161533675822120960)

@@ -16,8 +16,8 @@ abbrev pub ConvolutionsStayWithin : Type 0
 ConvolutionsStayWithin = (n : ℕ) (a b : ℕ → Fraction) → IsNatural a → IsNatural b
     → sum_to n (convolution a b) ≤ℚ sum_to n a *ℚ sum_to n b
 
--- where 8^k v_k is at most a bound for r places from s on, 7 * 8^s * (v_s + .. + v_(s+r-1)) is at most 8
--- times the bound
+-- where 8^k v_k is at most a bound at r places from s on, 7 * 8^s (v_s + .. + v_(s+r-1)) is at most 8
+-- bounds
 abbrev pub WeightedTailsAreSmall : Type 0
 WeightedTailsAreSmall =
     (v : ℕ → Fraction) (bound : Fraction) (s r : ℕ) → IsNatural v → whole (pos 0) ≤ℚ bound
@@ -25,7 +25,8 @@ WeightedTailsAreSmall =
     → whole (pos 7) *ℚ power (whole (pos 8)) s *ℚ sum_to r (λ i. v (s + i)) ≤ℚ whole (pos 8) *ℚ bound
 
 -- where the w^m a_m add up to at most alpha and each w^j v_j is at most a bound, w^k times the convolution
--- is at most their product
+-- is
+-- at most their product
 abbrev pub WeightedRightSidesAreSmall : Type 0
 WeightedRightSidesAreSmall = (w alpha bound : Fraction) (a v : ℕ → Fraction) (k : ℕ) → whole (pos 0) ≤ℚ w
     → whole (pos 0) ≤ℚ bound → IsNatural a
@@ -41,29 +42,29 @@ DrivenSequencesDecay = (n : ℕ) (a f v : ℕ → Fraction) (alpha first later s
 abbrev pub multiplied : (ℕ → Fraction) → ℕ → Fraction
 multiplied phi k = whole (pos (suc k)) *ℚ phi k
 
--- the total U = v_1 + .. + v_n of a sequence driven by (k + 1) phi_k: (2 - F) U <= 2 F v_0 + 2 (phi_0 + ..
--- + phi_(n-1))
+-- the total U = v_1 + .. + v_n of a sequence driven by (k + 1) phi_k, where phi_0 + .. + phi_(n-1) = Phi:
+-- (2 - F) U <= 2 F v_0 + 2 Phi
 abbrev pub DrivenTotals : Type 0
 DrivenTotals =
     (n : ℕ) (a phi v : ℕ → Fraction) (f : Fraction) → IsDriven n a (multiplied phi) v → sum_to n a ≤ℚ f
-    → (whole (pos 2) -ℚ f) *ℚ sum_to n (λ k. v (suc k)) ≤ℚ whole (pos 2) *ℚ f *ℚ v 0 +ℚ whole
-    (pos 2) *ℚ sum_to n phi
+    → (whole (pos 2) -ℚ f) *ℚ sum_to n (λ k. v (suc k))
+    ≤ℚ whole (pos 2) *ℚ f *ℚ v 0 +ℚ whole (pos 2) *ℚ sum_to n phi
 
 -- the same where F is at most 1/64, and at most 1/32
 abbrev pub DrivenTotalsAt64 : Type 0
 DrivenTotalsAt64 =
     (n : ℕ) (a phi v : ℕ → Fraction) → IsDriven n a (multiplied phi) v → sum_to n a ≤ℚ over (pos 1) 64
-    → whole (pos 127) *ℚ sum_to n (λ k. v (suc k)) ≤ℚ whole (pos 2) *ℚ v 0 +ℚ whole
-    (pos 128) *ℚ sum_to n phi
+    → whole (pos 127) *ℚ sum_to n (λ k. v (suc k))
+    ≤ℚ whole (pos 2) *ℚ v 0 +ℚ whole (pos 128) *ℚ sum_to n phi
 
 abbrev pub DrivenTotalsAt32 : Type 0
 DrivenTotalsAt32 =
     (n : ℕ) (a phi v : ℕ → Fraction) → IsDriven n a (multiplied phi) v → sum_to n a ≤ℚ over (pos 1) 32
-    → whole (pos 63) *ℚ sum_to n (λ k. v (suc k)) ≤ℚ whole (pos 2) *ℚ v 0 +ℚ whole (pos 64) *ℚ sum_to n phi
+    → whole (pos 63) *ℚ sum_to n (λ k. v (suc k))
+    ≤ℚ whole (pos 2) *ℚ v 0 +ℚ whole (pos 64) *ℚ sum_to n phi
 
--- the part h of a driven sequence in which two factors or more act, (k + 1) h_(k+1) <= a_0 v_k + .. +
--- a_(k-1) v_1,
--- has a total r with (2 - F) r <= F^2 v_0
+-- the part h of a driven sequence in which two factors or more act, with
+-- (k + 1) h_(k+1) <= a_0 v_k + .. + a_(k-1) v_1, has a total r with (2 - F) r <= F^2 v_0
 abbrev pub SecondOrderPartsAreSmall : Type 0
 SecondOrderPartsAreSmall =
     (n : ℕ) (a v h : ℕ → Fraction) (f : Fraction) → IsDriven n a (λ k. whole (pos 0)) v → IsNatural h

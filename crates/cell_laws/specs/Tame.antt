@@ -1,5 +1,4 @@
--- Tame systems and pairs: small enough that their Taylor coefficients decay and an error hardly grows over
--- a cell.
+-- Tame systems and pairs: so small that Taylor coefficients decay and an error hardly grows over a cell.
 use Rattle.std.specs.Prelude.{ℕ, zero, suc, pos, List, length, ◌^◌}
 use Rattle.frac_laws.specs.Fraction.{Fraction, over, whole, ◌+ℚ◌, ◌*ℚ◌, ◌-ℚ◌, ◌≤ℚ◌}
 use Rattle.frac_laws.specs.Sums.{sum_to, power}
@@ -36,31 +35,31 @@ weighted_norm_of_vectors norm vectors = sum_to (length vectors) (weighted (vecto
 abbrev pub one_factor_map : ℕ → List Matrix → ℕ → Matrix
 one_factor_map dimension matrices zero = identity dimension
 one_factor_map dimension matrices (suc m) =
-    add_matrices (one_factor_map dimension matrices m)
-    (scale_matrix (over (pos 1) (suc m)) (matrix_at matrices m))
+    add_matrices
+    (one_factor_map dimension matrices m) (scale_matrix (over (pos 1) (suc m)) (matrix_at matrices m))
 
 -- kappa, the growth of a cell, counted in units of 2^-40
 abbrev pub growth_of : ℕ → Fraction
 growth_of kappa40 = over (pos kappa40) (2 ^ 40)
 
--- 2 (1 - F)
+-- |I + sum of A_m / (m + 1)|
+abbrev pub one_factor_norm : Norm → System → Fraction
+one_factor_norm norm s = norm_of_matrix norm (one_factor_map s.dimension s.matrices (length s.matrices))
+
+-- 2 (1 - f)
 abbrev pub twice_the_rest : Fraction → Fraction
 twice_the_rest f = whole (pos 2) *ℚ (whole (pos 1) -ℚ f)
 
--- |I + sum of A_m / (m+1)| + F^2 / (2 (1 - F)) <= 1 + kappa, multiplied out by 2 (1 - F)
-abbrev pub GrowsWithin : Norm → ℕ → System → Type 0
-GrowsWithin norm kappa40 s =
-    twice_the_rest (total_norm norm s.matrices)
-    *ℚ norm_of_matrix norm (one_factor_map s.dimension s.matrices (length s.matrices))
-    +ℚ total_norm norm s.matrices *ℚ total_norm norm s.matrices
-    ≤ℚ twice_the_rest (total_norm norm s.matrices) *ℚ (whole (pos 1) +ℚ growth_of kappa40)
+-- p + f^2 / (2 (1 - f)) <= 1 + kappa, multiplied out by 2 (1 - f)
+abbrev pub IsGrowth : (f p kappa : Fraction) → Type 0
+IsGrowth f p kappa = twice_the_rest f *ℚ p +ℚ f *ℚ f ≤ℚ twice_the_rest f *ℚ (whole (pos 1) +ℚ kappa)
 
 -- a system is tame with growth kappa40 / 2^40 in a norm
 pub record IsTame (norm : Norm) (kappa40 : ℕ) (s : System) : Type 0 where
   pub total : total_norm norm s.matrices ≤ℚ over (pos 1) 64
   pub matrices : weighted_norm norm s.matrices ≤ℚ over (pos 1) 16
   pub free : weighted_norm_of_vectors norm s.free ≤ℚ over (pos 1) 8
-  pub growth : GrowsWithin norm kappa40 s
+  pub growth : IsGrowth (total_norm norm s.matrices) (one_factor_norm norm s) (growth_of kappa40)
 
 -- a pair is tame in Sup with growth kappa40 / 2^40 and coupling c
 pub record IsTamePair (kappa40 : ℕ) (c : Fraction) (p : CoupledPair) : Type 0 where

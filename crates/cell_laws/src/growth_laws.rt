@@ -1,14 +1,15 @@
 //! The growth of an error over a cell. Each function says one law and returns at once.
 
-ghost use Rattle.cell_laws.specs.GrowthLaws.{CellsGrow, CellsGrowLittle, SecondHalvesRespond, PairsGrow};
+ghost use Rattle.cell_laws.specs.GrowthLaws.{CellsGrow, CellsGrowLittle};
+ghost use Rattle.cell_laws.specs.GrowthLaws.{SecondHalvesRespond, PairsGrow};
 
-/// A homogeneous Taylor value of a tame system is at most `1 + kappa` times its start, for every degree, where the
-/// powers from the degree on have a term of their own.
+/// A homogeneous Taylor value of a tame system is at most `1 + kappa` times its start, for every degree,
+/// where the powers from the degree on have a term of their own.
 pub fn cells_grow()
     ensures { CellsGrow }
 {}
 
-/// Whatever the growth, the homogeneous coefficients of a tame system add up to at most 129/127 of its start.
+/// Whatever kappa, the homogeneous coefficients of a tame system add up to at most 129/127 of its start.
 pub fn cells_grow_little()
     ensures { CellsGrowLittle }
 {}

@@ -2,10 +2,12 @@
 #![tactic(auto)]
 
 mod decay_laws;
+mod error_laws;
 mod growth_laws;
 mod recurrence_laws;
 mod sample_checks;
 mod scalar_laws;
+mod solution_laws;
 
 pub use decay_laws::{coefficients_decay, pair_coefficients_decay, tails_are_below_a_unit};
 pub use recurrence_laws::{
@@ -16,3 +18,4 @@ pub use scalar_laws::{
     convolutions_total, driven_sequences_decay, driven_totals, second_order_parts_are_small,
     weighted_right_sides_are_small, weighted_tails_are_small,
 };
+pub use solution_laws::{defects_respond, solutions_are_driven, tame_right_sides_are_small};

@@ -1,12 +1,14 @@
-//! How the coefficients of a system follow from one another. Each function says one law and returns at once.
+//! How the coefficients of a system follow from one another. Each function says laws and returns at once.
 
 ghost use Rattle.cell_laws.specs.Recurrence.{CoefficientsRecur, SecondCoefficientsRecur};
 ghost use Rattle.cell_laws.specs.Recurrence.{TaylorValueSums, SecondTaylorValueSums, NormsAreDriven};
 ghost use Rattle.cell_laws.specs.Recurrence.{TaylorValuesStayWithin, SecondTaylorValuesStayWithin};
+ghost use Rattle.cell_laws.specs.Recurrence.{TaylorValuesKeepDimension, SecondTaylorValuesKeepDimension};
 ghost use Rattle.cell_laws.specs.Recurrence.{CoefficientsSuperpose, TaylorValuesSuperpose};
 ghost use Rattle.cell_laws.specs.Recurrence.{SecondTaylorValuesSuperpose};
 
-/// `(k + 1) y_(k+1)` is the sum of `A_m y_(k-m)` and `g_k`, and for the second half of a pair also of `C_m w_(k-m)`.
+/// `(k + 1) y_(k+1)` is the sum of `A_m y_(k-m)` and `g_k`, and for the second half of a pair also of
+/// `C_m w_(k-m)`.
 pub fn coefficients_recur()
     ensures single { CoefficientsRecur }
     ensures second { SecondCoefficientsRecur }
@@ -34,4 +36,10 @@ pub fn norms_are_driven()
 pub fn taylor_values_stay_within()
     ensures single { TaylorValuesStayWithin }
     ensures second { SecondTaylorValuesStayWithin }
+{}
+
+/// Taylor values have at most as many numbers as the system's dimension.
+pub fn taylor_values_keep_dimension()
+    ensures single { TaylorValuesKeepDimension }
+    ensures second { SecondTaylorValuesKeepDimension }
 {}

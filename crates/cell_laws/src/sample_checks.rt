@@ -1,11 +1,12 @@
-//! Small systems that meet the premises of the laws. Each function says what was computed and returns at once.
+//! Small systems that meet the premises of the laws. Each function says what they are and returns at once.
 
-ghost use Rattle.cell_laws.specs.Samples.{BackwardSystemIsTame, ForwardSystemIsTame, SamplePairIsTame};
+ghost use Rattle.cell_laws.specs.Samples.{BackwardSystemIsTame, ForwardSystemIsTame};
+ghost use Rattle.cell_laws.specs.Samples.{SamplePairIsTame};
 ghost use Rattle.cell_laws.specs.Samples.{HalvingValueIsExact, BackwardValueIsExact};
 ghost use Rattle.cell_laws.specs.Samples.{ForwardValueIsExact, SecondValueIsExact};
 
-/// A system with links and payments is tame in the norm Sup, one with links in the norm Sum, and a pair with a
-/// coupling.
+/// A system with links and payments is tame in the norm Sup, one with links in the norm Sum, and so is a pair
+/// with a coupling.
 pub fn samples_are_tame()
     ensures backward { BackwardSystemIsTame }
     ensures forward { ForwardSystemIsTame }

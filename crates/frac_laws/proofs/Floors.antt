@@ -1,53 +1,31 @@
 -- The floor and the ceiling of a quotient of whole numbers, as fractions.
-use Rattle.std.specs.Prelude.{◌≡◌, ℕ, suc, zero, pos, negsuc, ℤ, ◌+ℤ◌, ◌*ℤ◌, neg_ℤ, ◌≤ℤ◌, ◌<ℤ◌, ◌≤◌, ◌<◌}
-use Rattle.std.specs.Prelude.{◌*◌, ◌+◌, ◌/◌, ◌%◌, [], ◌∷◌}
+use Rattle.std.specs.Prelude.{ℕ, pos, ℤ, ◌+ℤ◌, neg_ℤ, ◌≤ℤ◌, ◌<ℤ◌, ◌≤◌}
+use Rattle.std.specs.Prelude.{[], ◌∷◌}
 use Rattle.std.proofs.Common.{refl, arith}
 use Rattle.std.proofs.lemmas.Int.{ints}
-use Rattle.frac_base.proofs.WholeTerms as W
 use Rattle.frac_laws.specs.Fraction.{over, whole, ◌+ℚ◌, ◌-ℚ◌, ◌≤ℚ◌, ◌<ℚ◌}
 use Rattle.frac_laws.specs.Rounding.{floor_of, ceiling_of}
 use Rattle.frac_laws.proofs.Linear.{linear, linear_lt, claims}
-use Rattle.frac_laws.proofs.Quotients.{over_le_of_cross, over_lt_of_cross, over-opposite, whole_add}
+use Rattle.frac_laws.proofs.RoundingLaws.{floor_low, floor_high}
+use Rattle.frac_laws.proofs.WholeProducts.{next-product}
+use Rattle.frac_laws.proofs.Quotients.{times_one, over_le_of_cross, over_lt_of_cross, over-opposite}
+use Rattle.frac_laws.proofs.Quotients.{whole_add}
 use Rattle.frac_laws.proofs.Quotients.{whole-opposite, lt_of_whole}
 use Rattle.frac_laws.proofs.Order.{le_lt_trans}
 
--- division of natural numbers with its remainder
-division : (n d : ℕ) → n ≡ n / suc d * suc d + n % suc d
-division n d = omega arith
-
-remainder : (n d : ℕ) → n % suc d < suc d
-remainder n d = omega arith
-
--- among whole numbers
-pub floor_times : (n : ℤ) (d : ℕ) → 1 ≤ d → (floor_of n (pos d) *ℤ pos d) ≤ℤ n
-floor_times n zero a = absurd (omega arith)
-floor_times (pos n) (suc d) a = omega (arith, ints, division n d)
-floor_times (negsuc n) (suc d) a = omega (arith, ints, division n d, remainder n d)
-
-below_next : (n : ℤ) (d : ℕ) → 1 ≤ d → n <ℤ (floor_of n (pos d) *ℤ pos d +ℤ pos d)
-below_next n zero a = absurd (omega arith)
-below_next (pos n) (suc d) a = omega (arith, ints, division n d, remainder n d)
-below_next (negsuc n) (suc d) a = omega (arith, ints, division n d, remainder n d)
-
-next_is : (f d : ℤ) → (f +ℤ pos 1) *ℤ d ≡ f *ℤ d +ℤ d
-next_is f d = W.ring (f ∷ d ∷ []) (hlevel W.terms) refl
-
-pub next_times : (n : ℤ) (d : ℕ) → 1 ≤ d → n <ℤ ((floor_of n (pos d) +ℤ pos 1) *ℤ pos d)
-next_times n d a = rw (next_is (floor_of n (pos d)) (pos d)) (below_next n d a)
-
-times_one : (n : ℤ) → n *ℤ pos 1 ≡ n
-times_one n = W.ring (n ∷ []) (hlevel W.terms) refl
+positive : (d : ℕ) → 1 ≤ d → pos 0 <ℤ pos d
+positive d a = omega (arith, ints)
 
 -- floor(n / d) is at most n / d
 pub floor_le : (n : ℤ) (d : ℕ) → 1 ≤ d → whole (floor_of n (pos d)) ≤ℚ over n d
 floor_le n d a = over_le_of_cross (floor_of n (pos d)) n 1 d (omega arith) a
-    (rw (times_one n) (floor_times n d a))
+    (rw (times_one n) (floor_low n (pos d) (positive d a)))
 
 -- n / d is below floor(n / d) + 1
 pub lt_next : (n : ℤ) (d : ℕ) → 1 ≤ d → over n d <ℚ whole (floor_of n (pos d)) +ℚ whole (pos 1)
 lt_next n d a = rw (← whole_add (floor_of n (pos d)) (pos 1))
     (over_lt_of_cross n (floor_of n (pos d) +ℤ pos 1) d 1 a (omega arith)
-    (rw (times_one n) (next_times n d a)))
+    (rw (times_one n, next-product (floor_of n (pos d)) d) (floor_high n (pos d) (positive d a))))
 
 -- n / d is at most ceiling(n / d)
 pub le_ceiling : (n : ℤ) (d : ℕ) → 1 ≤ d → over n d ≤ℚ whole (ceiling_of n (pos d))

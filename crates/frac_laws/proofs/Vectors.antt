@@ -87,6 +87,18 @@ dot-sum (x ∷ row) [] (suc d) h = sym
 dot-sum (x ∷ row) (y ∷ v) (suc d) h = ap (λ z. x *ℚ y +ℚ z) (dot-sum row v d (omega arith))
     ∙ sym (sum_to_first d (λ j. number_at (x ∷ row) j *ℚ number_at (y ∷ v) j))
 
+-- and so is a product with a vector of at most d numbers
+pub dot_sum_of_vector : (row v : Vector) (d : ℕ) → length v ≤ d
+    → dot row v ≡ sum_to d (λ j. number_at row j *ℚ number_at v j)
+dot_sum_of_vector [] v d h =
+    sym (sum_to_ext d (λ j b. ring (number_at v j ∷ []) (hlevel terms) refl) ∙ sum_to_zero d)
+dot_sum_of_vector (x ∷ row) [] d h =
+    sym (sum_to_ext d (λ j b. ring (number_at (x ∷ row) j ∷ []) (hlevel terms) refl) ∙ sum_to_zero d)
+dot_sum_of_vector (x ∷ row) (y ∷ v) zero h = absurd (omega arith)
+dot_sum_of_vector (x ∷ row) (y ∷ v) (suc d) h =
+    ap (λ z. x *ℚ y +ℚ z) (dot_sum_of_vector row v d (omega arith))
+    ∙ sym (sum_to_first d (λ j. number_at (x ∷ row) j *ℚ number_at (y ∷ v) j))
+
 -- images
 pub image-add : (a b : Matrix) (v : Vector) (i : ℕ)
     → number_at (image (add_matrices a b) v) i ≡ number_at (image a v) i +ℚ number_at (image b v) i

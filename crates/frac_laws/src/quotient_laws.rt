@@ -3,7 +3,8 @@
 ghost use Rattle.frac_laws.specs.QuotientLaws.{QuotientsCompareByCross, QuotientsAreBelowByCross};
 ghost use Rattle.frac_laws.specs.QuotientLaws.{QuotientsAreEqualByCross};
 ghost use Rattle.frac_laws.specs.QuotientLaws.{QuotientsAdd, QuotientsAddOverOneDivisor, QuotientsMultiply};
-ghost use Rattle.frac_laws.specs.QuotientLaws.{QuotientsHaveOpposites, QuotientsCancel, QuotientsTimesDivisor};
+ghost use Rattle.frac_laws.specs.QuotientLaws.{QuotientsHaveOpposites, QuotientsCancel};
+ghost use Rattle.frac_laws.specs.QuotientLaws.{QuotientsTimesDivisor};
 ghost use Rattle.frac_laws.specs.QuotientLaws.{WholeNumbersCompare, WholeNumbersAdd, WholeNumbersMultiply};
 
 /// `n/d <= m/e` exactly where `n e <= m d`.

@@ -1,4 +1,5 @@
-use Rattle.cell_laws.proofs.TameDecay.{first_halves_decay, second_halves_decay, stored_first_halves_decay, stored_second_halves_decay}
+use Rattle.cell_laws.proofs.TameDecay.{first_halves_decay, second_halves_decay, stored_first_halves_decay}
+use Rattle.cell_laws.proofs.TameDecay.{stored_second_halves_decay}
 use Rattle.cell_laws.proofs.decay_laws.pair_coefficients_decay.Goals as goal
 
 pub returns-clause-first : goal.returns-clause-first

@@ -1,4 +1,5 @@
-use Rattle.cell_laws.proofs.TameDecay.{tails_are_below_a_unit, stored_tails_are_below_a_unit, second_tails_are_below_a_unit, stored_second_tails_are_below_a_unit}
+use Rattle.cell_laws.proofs.TameDecay.{tails_are_below_a_unit, stored_tails_are_below_a_unit}
+use Rattle.cell_laws.proofs.TameDecay.{second_tails_are_below_a_unit, stored_second_tails_are_below_a_unit}
 use Rattle.cell_laws.proofs.decay_laws.tails_are_below_a_unit.Goals as goal
 
 pub returns-clause-start : goal.returns-clause-start

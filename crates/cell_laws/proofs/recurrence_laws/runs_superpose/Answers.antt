@@ -1,4 +1,5 @@
-use Rattle.cell_laws.proofs.Superposition.{coefficients_superpose, taylor_values_superpose, second_taylor_values_superpose}
+use Rattle.cell_laws.proofs.Superposition.{coefficients_superpose, taylor_values_superpose}
+use Rattle.cell_laws.proofs.Superposition.{second_taylor_values_superpose}
 use Rattle.cell_laws.proofs.recurrence_laws.runs_superpose.Goals as goal
 
 pub returns-clause-coefficients : goal.returns-clause-coefficients

@@ -1,4 +1,5 @@
-use Rattle.cell_laws.proofs.Samples.{halving_value_is_exact, backward_value_is_exact, forward_value_is_exact, second_value_is_exact}
+use Rattle.cell_laws.proofs.Samples.{halving_value_is_exact, backward_value_is_exact}
+use Rattle.cell_laws.proofs.Samples.{forward_value_is_exact, second_value_is_exact}
 use Rattle.cell_laws.proofs.sample_checks.sample_values_are_exact.Goals as goal
 
 pub returns-clause-halving : goal.returns-clause-halving

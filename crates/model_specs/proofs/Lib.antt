@@ -1,0 +1,5 @@
+pub mod ListsByPlace
+pub mod CellTables
+pub mod CellEquations
+pub mod Scales
+pub mod LedgerInstances
