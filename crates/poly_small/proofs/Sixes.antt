@@ -47,3 +47,9 @@ over-whole_value (c ∷ p) x d =
         ap (λ z. whole n *ℚ z) (over_is m d)
         ∙ ring (whole n ∷ whole m ∷ over (pos 1) d ∷ []) (hlevel terms) refl
         ∙ ap (λ z. whole m *ℚ z) (sym (over_is n d))
+
+-- six numbers that are the six of an array are the array
+pub given_six : (p : List ℤ) (a b c d e f : ℤ) → length p ≡ 6 → a ≡ get_or p 0 (pos 0) → b ≡ get_or p 1 (pos 0)
+    → c ≡ get_or p 2 (pos 0) → d ≡ get_or p 3 (pos 0) → e ≡ get_or p 4 (pos 0) → f ≡ get_or p 5 (pos 0)
+    → a ∷ b ∷ c ∷ d ∷ e ∷ f ∷ [] ≡ p
+given_six p a b c d e f h ha hb hc hd he hf = rw (ha, hb, hc, hd, he, hf) (sym (six_are_all p h))

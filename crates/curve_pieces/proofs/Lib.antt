@@ -1,0 +1,3 @@
+pub mod BoundedPlaces
+pub mod Bounds
+pub mod Starts

@@ -1,0 +1,4 @@
+pub mod BrokenRules
+pub mod Directions
+pub mod PiecewiseCurves
+pub mod Records

@@ -1,0 +1,69 @@
+//! Curves made of pieces.
+
+ghost use Rattle.std.specs.Prelude.{◌≡◌, ℕ, ◌*◌, ◌^◌, ◌<◌, ◌≤◌, ◌↔◌, IfOk, IsOk};
+ghost use Rattle.frac_laws.specs.Polynomials.{all_over};
+ghost use Rattle.model_specs.specs.Curve.{piece_at};
+ghost use Rattle.model_specs.specs.Cells.{cells_of_32, curve_cell};
+ghost use Rattle.poly_small.specs.WholePolynomials.{value_of_sizes};
+ghost use Rattle.curve_pieces.specs.Records.{record_of, records_of, starts_of};
+ghost use Rattle.curve_pieces.specs.BrokenRules.{StartsInOrder, IsBoundedAt, IsFirstBroken};
+
+use crate::piece::Piece;
+use crate::rules::{first_out_of_order, first_unbounded};
+use std::alloc::Global;
+use std::marker::Model;
+
+/// Why pieces are no curve.
+#[derive(Clone, Copy, Debug, PartialEq, Eq)]
+pub enum CurveError {
+    /// Rule 8 or 9, and the first piece that breaks it.
+    Rule(u8, u32),
+    /// Memory ran out.
+    Memory,
+}
+
+/// A curve over a term of months: its pieces obey rules 8 and 9.
+#[derive(Drop)]
+pub struct Curve {
+    pieces: Vec<Piece>,
+    months: u32,
+}
+
+impl Model for Curve {
+    ghost use Rattle.curve_pieces.specs.PiecewiseCurves.{PiecewiseCurve, IsAllowed};
+
+    ghost Value = { PiecewiseCurve };
+
+    ghost view = { λ c. record { pieces = records_of c.pieces.items; months = c.months } };
+
+    ghost invariant = { λ c. IsAllowed (record { pieces = records_of c.pieces.items; months = c.months }) };
+}
+
+impl Curve {
+    ghost use Rattle.curve_pieces.specs.PiecewiseCurves.{IsAllowed};
+
+    /// The curve with these pieces. Rule 8 is looked at over all pieces before rule 9. Takes no memory of its own.
+    pub fn new(_alloc: Global, pieces: Vec<Piece>, months: u32) -> Result<Curve, CurveError>
+        requires some_months { 1 ≤ months }
+        requires most_months { months ≤ 1200 }
+        ensures ok { IfOk result (λ curve. curve ≡ record { pieces = records_of pieces.items; months = months }) }
+        ensures lawful { IsOk result ↔ IsAllowed (record { pieces = records_of pieces.items; months = months }) }
+        ensures rule_8 { (i : ℕ) → (result ≡ Err (CurveError.Rule 8 i)) ↔ IsFirstBroken (StartsInOrder months (starts_of pieces.items)) i }
+        ensures rule_9 { (i : ℕ) → (result ≡ Err (CurveError.Rule 9 i)) ↔ (((k : ℕ) → StartsInOrder months (starts_of pieces.items) k) × IsFirstBroken (IsBoundedAt months (records_of pieces.items)) i) }
+    {
+        if let Some(index) = first_out_of_order(&pieces, months) {
+            return Err(CurveError::Rule(8, index));
+        }
+        if let Some(index) = first_unbounded(&pieces, months) {
+            return Err(CurveError::Rule(9, index));
+        }
+        Ok(Curve { pieces, months })
+    }
+
+    /// The pieces, in the file's order.
+    pub fn pieces(&self) -> &[Piece]
+        ensures { records_of result.now ≡ self.now.pieces }
+    {
+        &self.pieces
+    }
+}
