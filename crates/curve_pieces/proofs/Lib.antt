@@ -1,3 +1,5 @@
 pub mod BoundedPlaces
 pub mod Bounds
+pub mod Causes
+pub mod Covering
 pub mod Starts

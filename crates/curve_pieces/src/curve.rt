@@ -6,6 +6,7 @@ ghost use Rattle.model_specs.specs.Curve.{piece_at};
 ghost use Rattle.model_specs.specs.Cells.{cells_of_32, curve_cell};
 ghost use Rattle.poly_small.specs.WholePolynomials.{value_of_sizes};
 ghost use Rattle.curve_pieces.specs.Records.{record_of, records_of, starts_of};
+ghost use Rattle.curve_pieces.specs.PiecewiseCurves.{IsAllowed};
 ghost use Rattle.curve_pieces.specs.BrokenRules.{StartsInOrder, IsBoundedAt, IsFirstBroken};
 
 use crate::piece::Piece;
@@ -30,6 +31,7 @@ pub struct Curve {
 }
 
 impl Model for Curve {
+    ghost use Rattle.curve_pieces.specs.Records.{records_of};
     ghost use Rattle.curve_pieces.specs.PiecewiseCurves.{PiecewiseCurve, IsAllowed};
 
     ghost Value = { PiecewiseCurve };
@@ -40,8 +42,6 @@ impl Model for Curve {
 }
 
 impl Curve {
-    ghost use Rattle.curve_pieces.specs.PiecewiseCurves.{IsAllowed};
-
     /// The curve with these pieces. Rule 8 is looked at over all pieces before rule 9. Takes no memory of its own.
     pub fn new(_alloc: Global, pieces: Vec<Piece>, months: u32) -> Result<Curve, CurveError>
         requires some_months { 1 ≤ months }

@@ -1,6 +1,6 @@
 //! The first piece that breaks a rule.
 
-ghost use Rattle.std.specs.Prelude.{◌≡◌, ℕ, ◌+◌, ◌<◌, ◌≤◌, ◌↔◌, IsTrue, IfSome, IfNone, length, slice_index_or};
+ghost use Rattle.std.specs.Prelude.{◌≡◌, ℕ, ◌+◌, ◌<◌, ◌≤◌, ◌↔◌, IsTrue, IfSome, IfNone, length, slice_index, slice_index_or};
 ghost use Rattle.model_specs.specs.RecordRules.{IsBounded};
 ghost use Rattle.curve_pieces.specs.Records.{record_of, records_of, starts_of};
 ghost use Rattle.curve_pieces.specs.BrokenRules.{StartsInOrder, IsBoundedAt, IsFirstBroken};
@@ -87,4 +87,25 @@ pub(crate) fn first_unbounded(pieces: &[Piece], months: u32) -> Option<u32>
         index += 1;
     }
     None
+}
+
+/// The place of the last piece that starts at or before a month, by halving.
+pub(crate) fn last_start(pieces: &[Piece], month: u32) -> usize
+    requires some { 0 < length pieces.now }
+    requires first { slice_index (starts_of pieces.now) 0 ≤ month }
+    ensures inside { result < length pieces.now }
+    ensures started { slice_index (starts_of pieces.now) result ≤ month }
+    ensures next { result + 1 < length pieces.now → month < slice_index (starts_of pieces.now) (result + 1) }
+{
+    let mut low = 0;
+    let mut high = pieces.len();
+    while high - low > 1 {
+        let middle = low + (high - low) / 2;
+        if start(pieces, middle) <= month {
+            low = middle;
+        } else {
+            high = middle;
+        }
+    }
+    low
 }
