@@ -1,16 +1,19 @@
 //! Curves made of pieces.
 
-ghost use Rattle.std.specs.Prelude.{◌≡◌, ℕ, ◌*◌, ◌^◌, ◌<◌, ◌≤◌, ◌↔◌, IfOk, IsOk};
+ghost use Rattle.std.specs.Prelude.{◌≡◌, ℕ, ◌+◌, ◌-◌, ◌*◌, ◌^◌, ◌<◌, ◌≤◌, ◌↔◌, IfOk, IsOk};
 ghost use Rattle.frac_laws.specs.Polynomials.{all_over};
 ghost use Rattle.model_specs.specs.Curve.{piece_at};
 ghost use Rattle.model_specs.specs.Cells.{cells_of_32, curve_cell};
+ghost use Rattle.model_specs.specs.RecordRules.{IsBounded};
+ghost use Rattle.curve_pieces.specs.Directions.{direction_of};
 ghost use Rattle.poly_small.specs.WholePolynomials.{value_of_sizes};
 ghost use Rattle.curve_pieces.specs.Records.{record_of, records_of, starts_of};
 ghost use Rattle.curve_pieces.specs.PiecewiseCurves.{IsAllowed};
 ghost use Rattle.curve_pieces.specs.BrokenRules.{StartsInOrder, IsBoundedAt, IsFirstBroken};
 
+use crate::cell::{CellPoly, Dir, origin, turned};
 use crate::piece::Piece;
-use crate::rules::{first_out_of_order, first_unbounded};
+use crate::rules::{first_out_of_order, first_unbounded, last_start};
 use std::alloc::Global;
 use std::marker::Model;
 
@@ -65,5 +68,30 @@ impl Curve {
         ensures { records_of result.now ≡ self.now.pieces }
     {
         &self.pieces
+    }
+
+    /// The piece that covers a month. It holds for `month - from + 1` months at least.
+    pub fn at(&self, month: u32) -> &Piece
+        requires { month < self.now.months }
+        ensures covers { record_of result.now ≡ piece_at self.now.pieces month }
+        ensures started { result.now.from ≤ month }
+        ensures bounded { IsBounded result.now.c (month - result.now.from + 1) }
+    {
+        &self.pieces[last_start(&self.pieces, month)]
+    }
+
+    /// The curve in a cell of a month, times 1/384, the length of a cell in years: a polynomial of x from 0 to 1, over
+    /// `den * 384^6`, where the curve is over `den`. Takes no memory.
+    pub fn cell_of(&self, month: u32, cell: u32, dir: Dir) -> CellPoly
+        requires month { month < self.now.months }
+        requires cell { cell < 32 }
+        ensures polynomial { (den : ℕ) → 1 ≤ den
+            → all_over (den * 384 ^ 6) result.n ≡ curve_cell (cells_of_32 (direction_of dir)) den self.now.pieces month cell }
+        ensures size { value_of_sizes result.n 1 < 2 ^ 126 }
+    {
+        let piece = self.at(month);
+        let origin = origin(dir, month - piece.from, cell);
+        let n = turned(piece.in_years().in_units(384).shift(origin), dir).c;
+        CellPoly { n }
     }
 }
