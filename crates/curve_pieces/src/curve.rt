@@ -76,6 +76,7 @@ impl Curve {
         ensures covers { record_of result.now ≡ piece_at self.now.pieces month }
         ensures started { result.now.from ≤ month }
         ensures bounded { IsBounded result.now.c (month - result.now.from + 1) }
+        ensures term { self.now.months ≤ 1200 }
     {
         &self.pieces[last_start(&self.pieces, month)]
     }
