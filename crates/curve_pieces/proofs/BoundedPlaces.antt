@@ -16,8 +16,7 @@ pub bounded_at : (pieces : List Piece) (i months : ℕ) (none : Piece) (end star
 bounded_at pieces i months none end start b inside e s answer =
     let P : ℕ → ℕ → Type 0 = λ to from. IsBounded (get_or (records_of pieces) i zero_piece).c (to - from) in
     let same : (get_or (records_of pieces) i zero_piece).c ≡ (get_or pieces i none).c =
-    ap (λ p. p.c) (record-at pieces i none zero_piece inside) in
-    (
+    ap (λ p. p.c) (record-at pieces i none zero_piece inside) in (
       λ h held. rw (same, ← e, ← s) (answer.0 h),
       λ h. answer.1 (rw (same, ← e, ← s) at (h (omega (arith, length-records pieces)))),
     )

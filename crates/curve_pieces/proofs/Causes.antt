@@ -6,9 +6,9 @@ use Rattle.curve_pieces.proofs.Starts.{below_or_not}
 pub first_broken_is_one : (Holds : ℕ → Type 0) (i j : ℕ) → IsFirstBroken Holds i → IsFirstBroken Holds j → i ≡ j
 first_broken_is_one Holds i j a b =
     elim (below_or_not i j) [
-      inl below ↦ absurd (a.broken (b.before i below))
+      | inl below ↦ absurd (a.broken (b.before i below))
       | inr above ↦ elim (below_or_not j i) [
-        inl below ↦ absurd (b.broken (a.before j below))
+        | inl below ↦ absurd (b.broken (a.before j below))
         | inr upto ↦ omega arith
       ]
     ]

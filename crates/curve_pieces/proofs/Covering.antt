@@ -33,8 +33,10 @@ last_started : (pieces : List Piece) (month low : ℕ) (none : Piece) → low < 
     → last_or none (filter (λ piece. nat_le piece.from month) pieces) ≡ get_or pieces low zero_piece
 last_started [] month low none inside upto after = absurd (omega arith)
 last_started (p ∷ pieces) month zero none inside upto after =
-    rw (starts_by p.from month (upto 0 (omega arith)),
-    nothing_started pieces month (λ k below. after (suc k) (omega arith) (omega arith))) refl
+    rw (
+      starts_by p.from month (upto 0 (omega arith)),
+      nothing_started pieces month (λ k below. after (suc k) (omega arith) (omega arith)),
+    ) refl
 last_started (p ∷ pieces) month (suc low) none inside upto after =
     rw (starts_by p.from month (upto 0 (omega arith)))
     (last_started pieces month low p (omega arith) (λ k below. upto (suc k) (omega arith))
@@ -47,7 +49,7 @@ starts_rise starts months zero zero h below inside = omega arith
 starts_rise starts months (suc i) zero h below inside = absurd (omega arith)
 starts_rise starts months i (suc j) h below inside =
     elim (below_or_not j i) [
-      inl last ↦ let same : i ≡ suc j = omega arith in omega (arith, ap (λ k. get_or starts k 0) same)
+      | inl last ↦ let same : i ≡ suc j = omega arith in omega (arith, ap (λ k. get_or starts k 0) same)
       | inr earlier ↦ omega (arith, starts_rise starts months i j h earlier (omega arith), (h (suc j) inside).0)
     ]
 
@@ -58,8 +60,11 @@ pub covering : (pieces : List Piece) (months month low : ℕ) → ((k : ℕ) →
 covering pieces months month low h inside same started next =
     last_started pieces month low zero_piece inside
     (λ k below. omega (arith, starts_rise (piece_starts pieces) months k low h below (omega arith)))
-    (λ k above below. omega (arith, next (omega arith),
-    starts_rise (piece_starts pieces) months (low + 1) k h (omega arith) (omega arith)))
+    (λ k above below. omega (
+      arith,
+      next (omega arith),
+      starts_rise (piece_starts pieces) months (low + 1) k h (omega arith) (omega arith),
+    ))
 
 -- the piece that covers a month holds to the month's end at least, so that rule 9 bounds it there
 held : (starts : List ℕ) (months month low : ℕ) → low < length starts → get_or starts low 0 ≤ month → month < months
@@ -67,9 +72,9 @@ held : (starts : List ℕ) (months month low : ℕ) → low < length starts → 
     → month - get_or starts low 0 + 1 ≤ months_of months starts low
 held starts months month low inside started term next =
     elim (below_or_not (suc low) (length starts)) [
-      inl below ↦
-        let later : month < get_or starts (suc low) 0 = rw add-one at (next (omega arith)) in
-        omega (arith, later, get_or-default starts (suc low) months 0 below)
+      | inl below ↦
+          let later : month < get_or starts (suc low) 0 = rw add-one at (next (omega arith)) in
+          omega (arith, later, get_or-default starts (suc low) months 0 below)
       | inr above ↦ omega (arith, get_or-past starts (suc low) months above)
     ]
 

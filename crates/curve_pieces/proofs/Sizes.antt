@@ -99,10 +99,21 @@ units_fit c k six bounded = omega (arith, cell_sizes c k 1 six bounded (omega ar
 pub shift_fits : (c q : List ℤ) (k origin : ℕ) → length c ≡ 6 → IsBounded c (k + 1) → origin ≤ 32 * (k + 1)
     → q ≡ in_units_of 384 c → 10 * value_of_sizes q (max origin 1) < 2 ^ 126
 shift_fits c q k origin six bounded within units =
-    omega (arith, cell_sizes c k (max origin 1) six bounded (omega arith),
-    ap (λ p. value_of_sizes p (max origin 1)) units)
+    omega (
+      arith,
+      cell_sizes c k (max origin 1) six bounded (omega arith),
+      ap (λ p. value_of_sizes p (max origin 1)) units,
+    )
 
 pub cell_fits : (c q r : List ℤ) (k origin : ℕ) → FormsCell c q r k origin → value_of_sizes r 1 < 2 ^ 126
 cell_fits c q r k origin f =
-    omega (arith, cell_sizes c k (max origin 1) f.six f.bounded (omega (arith, f.origin_within)), f.size,
-    ap (λ p. value_of_sizes p (max origin 1)) f.units)
+    omega (
+      arith,
+      cell_sizes c k (max origin 1) f.six f.bounded (omega (arith, f.origin_within)),
+      f.size,
+      ap (λ p. value_of_sizes p (max origin 1)) f.units,
+    )
+
+pub month_fits : (c : List ℤ) (k : ℕ) → length c ≡ 6 → IsBounded c (k + 1)
+    → 320 * value_of_sizes (in_units_of 12 c) (max k 1) < 2 ^ 126
+month_fits c k six bounded = month_sizes c k (max k 1) six bounded (omega arith)

@@ -43,8 +43,11 @@ start-below starts months n (suc k) h below inside = (h (suc k) below inside).1
 pub place_below : (starts : List ℕ) (months k : ℕ) → ((i : ℕ) → i < suc k → StartsInOrder months starts i)
     → k < length starts → k < months
 place_below starts months k h inside =
-    omega (arith, start-above starts months (suc k) k h (omega arith) inside,
-    start-below starts months (suc k) k h (omega arith) inside)
+    omega (
+      arith,
+      start-above starts months (suc k) k h (omega arith) inside,
+      start-below starts months (suc k) k h (omega arith) inside,
+    )
 
 pub below_or_not : (i n : ℕ) → (i < n) ⊎ (n ≤ i)
 below_or_not zero zero = inr (omega arith)
@@ -84,7 +87,7 @@ pub end_above : (starts : List ℕ) (months k : ℕ) → ((i : ℕ) → StartsIn
     → get_or starts k 0 < get_or starts (suc k) months
 end_above starts months k h inside =
     elim (below_or_not (suc k) (length starts)) [
-      inl below ↦ rw (get_or-default starts (suc k) months 0 below) ((h (suc k) below).0)
+      | inl below ↦ rw (get_or-default starts (suc k) months 0 below) ((h (suc k) below).0)
       | inr above ↦ rw (get_or-past starts (suc k) months above)
           (start-below starts months (suc k) k (λ i b. h i) (omega arith) inside)
     ]
@@ -93,6 +96,6 @@ pub end_within : (starts : List ℕ) (months k : ℕ) → ((i : ℕ) → StartsI
     → get_or starts (suc k) months ≤ months
 end_within starts months k h =
     elim (below_or_not (suc k) (length starts)) [
-      inl below ↦ rw (get_or-default starts (suc k) months 0 below) (omega (arith, (h (suc k) below).1))
+      | inl below ↦ rw (get_or-default starts (suc k) months 0 below) (omega (arith, (h (suc k) below).1))
       | inr above ↦ rw (get_or-past starts (suc k) months above) (omega arith)
     ]

@@ -9,3 +9,6 @@ mod rules;
 pub use cell::{CellPoly, Dir};
 pub use curve::{Curve, CurveError};
 pub use piece::Piece;
+
+#[cfg(test)]
+mod tests;

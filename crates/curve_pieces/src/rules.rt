@@ -31,7 +31,11 @@ fn is_in_order(pieces: &[Piece], i: usize, months: u32) -> bool
     ensures { IsTrue result ↔ StartsInOrder months (starts_of pieces.now) i }
 {
     let from = start(pieces, i);
-    let after_last = if i == 0 { from == 0 } else { start(pieces, i - 1) < from };
+    let after_last = if i == 0 {
+        from == 0
+    } else {
+        start(pieces, i - 1) < from
+    };
     after_last && from < months
 }
 
@@ -40,7 +44,11 @@ fn end(pieces: &[Piece], i: usize, months: u32) -> u32
     requires { i < length pieces.now }
     ensures { result ≡ slice_index_or (starts_of pieces.now) (i + 1) months }
 {
-    if i + 1 < pieces.len() { start(pieces, i + 1) } else { months }
+    if i + 1 < pieces.len() {
+        start(pieces, i + 1)
+    } else {
+        months
+    }
 }
 
 // Rule 9 at a piece.

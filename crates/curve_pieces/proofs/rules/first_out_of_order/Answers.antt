@@ -10,5 +10,8 @@ overflow_add-index c =
     let so_far = below_more _ _ c.loop-i.invariant.1 (c.is_in_order.ensures.0 c.if-not-is_in_order.false) in
     let inside : c.loop-i.i < length (starts_of c.args.pieces.now) =
     omega (arith, length-starts c.args.pieces.now, c.loop-i-test.true) in
-    omega (arith, next_place_fits (starts_of c.args.pieces.now) c.args.months c.loop-i.i so_far inside,
-    c.loop-i.invariant.0)
+    omega (
+      arith,
+      next_place_fits (starts_of c.args.pieces.now) c.args.months c.loop-i.i so_far inside,
+      c.loop-i.invariant.0,
+    )

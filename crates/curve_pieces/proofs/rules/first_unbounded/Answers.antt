@@ -17,5 +17,9 @@ pub overflow_add-index : goal.overflow_add-index
 overflow_add-index c =
     let inside : c.loop-i.i < length (starts_of c.args.pieces.now) =
     omega (arith, length-starts c.args.pieces.now, c.loop-i-test.true) in
-    omega (arith, place_below (starts_of c.args.pieces.now) c.args.months c.loop-i.i (λ k below. c.requires.in_order k) inside,
-    c.loop-i.invariant.0, c.requires.term)
+    omega (
+      arith,
+      place_below (starts_of c.args.pieces.now) c.args.months c.loop-i.i (λ k below. c.requires.in_order k) inside,
+      c.loop-i.invariant.0,
+      c.requires.term,
+    )

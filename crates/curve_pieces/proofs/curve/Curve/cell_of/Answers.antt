@@ -49,15 +49,15 @@ turned-requires c =
 pub returns-clause-polynomial : goal.returns-clause-polynomial
 returns-clause-polynomial c =
     λ den positive.
-      cell_is_curve c.in_units.result.c c.shift.result.c c.turned.result.c (direction_of c.args.dir) c.origin-origin.result
-      c.args.month c.args.cell den (record_of c.at-piece.result.now) positive
-      (c.in_units.ensures.polynomial den positive (omega arith)
-      ∙ ap (λ p. stretched (over (pos 1) 384) (all_over den p)) c.in_years.ensures)
-      (c.shift.ensures.polynomial (den * 384 ^ 5)) (c.turned.ensures.polynomial (den * 384 ^ 5))
-      c.origin-origin.ensures.value
-      ∙ ap (λ piece. per_cell (cells_of_32 (direction_of c.args.dir))
-      (cell_polynomial (cells_of_32 (direction_of c.args.dir)) (all_over den piece.c) (c.args.month - piece.from) c.args.cell))
-      c.at-piece.ensures.covers
+    cell_is_curve c.in_units.result.c c.shift.result.c c.turned.result.c (direction_of c.args.dir) c.origin-origin.result
+    c.args.month c.args.cell den (record_of c.at-piece.result.now) positive
+    (c.in_units.ensures.polynomial den positive (omega arith)
+    ∙ ap (λ p. stretched (over (pos 1) 384) (all_over den p)) c.in_years.ensures)
+    (c.shift.ensures.polynomial (den * 384 ^ 5)) (c.turned.ensures.polynomial (den * 384 ^ 5))
+    c.origin-origin.ensures.value
+    ∙ ap (λ piece. per_cell (cells_of_32 (direction_of c.args.dir))
+    (cell_polynomial (cells_of_32 (direction_of c.args.dir)) (all_over den piece.c) (c.args.month - piece.from) c.args.cell))
+    c.at-piece.ensures.covers
 
 pub returns-clause-size : goal.returns-clause-size
 returns-clause-size c =

@@ -16,10 +16,10 @@ returns-in-Some-first_unbounded-clause-rule_9 c =
     let first = rw c.deref-2.ensures.value at c.in-Some-first_unbounded.ensures.some in
     λ i. (
       λ e.
-        let same : c.in-Some-first_unbounded.index ≡ i = cc in
-        cause_at (IsBoundedAt c.args.months (records_of c.args.pieces.items))
-        ((k : ℕ) → StartsInOrder c.args.months (starts_of c.args.pieces.items) k) _ i in_order first same,
+          let same : c.in-Some-first_unbounded.index ≡ i = cc in
+          cause_at (IsBoundedAt c.args.months (records_of c.args.pieces.items))
+          ((k : ℕ) → StartsInOrder c.args.months (starts_of c.args.pieces.items) k) _ i in_order first same,
       λ h.
-        let same = first_broken_is_one (IsBoundedAt c.args.months (records_of c.args.pieces.items)) _ i first h.1 in
-        cc,
+          let same = first_broken_is_one (IsBoundedAt c.args.months (records_of c.args.pieces.items)) _ i first h.1 in
+          cc,
     )
