@@ -6,7 +6,8 @@ use Rattle.model_specs.specs.Whole.{natural_part}
 use Rattle.model_specs.specs.Product.{Product}
 use Rattle.model_specs.specs.Payments.{payment_plan, pattern_plan}
 use Rattle.model_specs.specs.Ledgers.{scale, radius, radius_forward, second_radius}
-use Rattle.model_specs.specs.Runs.{reserve, value_before_issue, benefits, pattern_value, second_moment, probability}
+use Rattle.model_specs.specs.Runs.{reserve, value_before_issue, benefits, pattern_value, second_moment}
+use Rattle.model_specs.specs.Runs.{probability}
 
 -- the kinds of numbers that a row may hold
 pub data RowKind : Type 0 where

@@ -7,9 +7,7 @@ mod ledger_checks;
 mod number_laws;
 mod run_checks;
 
-pub use equation_laws::{
-    cells_are_quintic, first_moments_agree, systems_solve_their_equations,
-};
+pub use equation_laws::{cells_are_quintic, first_moments_agree, systems_solve_their_equations};
 pub use flat_laws::{flat_months_add_up, flat_products_are_exact};
 pub use ledger_checks::{
     century_ledgers, loads_and_numerators, product_at_the_limits, rules_at_their_limits,
