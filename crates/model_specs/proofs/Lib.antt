@@ -1,6 +1,7 @@
 pub mod ListsByPlace
 pub mod CellTables
 pub mod CellEquations
+pub mod CellEntries
 pub mod CellShapes
 pub mod MonthCoefficients
 pub mod Moments

@@ -1,5 +1,5 @@
 -- The curves and payments of a cell as polynomials of x from 0 to 1. A year has 12 months; a month has
--- 32 cells, or one where whole months are cells.
+-- 32 cells, or one where whole months are cells. This product's own.
 use Rattle.std.specs.Prelude.{ℕ, suc, ◌+◌, ◌-◌, ◌*◌, ℤ, pos, negsuc, ◌==◌, ◌&&◌, List, [], length}
 use Rattle.std.specs.Prelude.{Option, find, option_map, unwrap_or}
 use Rattle.frac_laws.specs.Fraction.{Fraction, over}

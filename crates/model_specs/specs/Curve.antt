@@ -1,4 +1,4 @@
--- Curves by pieces: functions of time that are polynomials from one month to another.
+-- Curves by pieces: functions of time that are polynomials from one month to another. This product's own.
 use Rattle.std.specs.Prelude.{ℕ, ℤ, pos, nat_le, filter, List, [], ◌∷◌}
 use Rattle.model_specs.specs.Whole.{last_or}
 

@@ -15,6 +15,7 @@ pub mod Runs
 pub mod Rows
 pub mod Stretches
 pub mod NumberLaws
+pub mod EntryLaws
 pub mod ShapeLaws
 pub mod MomentLaws
 pub mod FlatLaws

@@ -1,4 +1,5 @@
 -- What a printed row says: the exact number between its two ends, for every degree from some degree on.
+-- This product's own; the variance is V2 - V^2, and the equivalence premium B / P.
 use Rattle.std.specs.Prelude.{ℕ, ◌^◌, ◌≤◌, ℤ, pos, ◌-ℤ◌}
 use Rattle.frac_laws.specs.Fraction.{Fraction, whole, ◌*ℚ◌, ◌-ℚ◌, ◌≤ℚ◌, ◌<ℚ◌}
 use Rattle.frac_laws.specs.Ledger.{tolerance_first, tolerance_second, tolerance_variance}

@@ -1,4 +1,5 @@
--- The runs of degree n: the exact reserves, moments and probabilities of a product, cell by cell.
+-- The runs of degree n: the exact reserves, moments and probabilities of a product, cell by cell. The
+-- equations are those of the literature; runs by Taylor values of degree n are this product's own.
 use Rattle.std.specs.Prelude.{ℕ, zero, suc, ◌-◌, pos, ◌==◌, if◌then◌else◌, length}
 use Rattle.frac_laws.specs.Fraction.{Fraction, whole, ◌+ℚ◌, ◌*ℚ◌}
 use Rattle.frac_laws.specs.Lists.{Vector, number_at, add_lists}
