@@ -61,7 +61,7 @@ abbrev pub date_adds : List (ℕ × ℤ) → ℕ → ℕ → ℕ → ℕ
 date_adds [] largest w G = 0
 date_adds (lump ∷ lumps) largest w G = div_ceil (2 * largest * w) G + 4
 
--- the second radius some months before the term, before that date's lumps, in units of 2^-64; G is the scale
+-- the second radius some months before the term, before that date's lumps, in units of 2^-64; G is 2^g
 abbrev pub second_before_term : Product → Plan → ℕ → ℕ → ℕ
 second_before_term product plan G zero = 0
 second_before_term product plan G (suc months) =

@@ -1,4 +1,5 @@
 -- What a printed row says: the exact number between its two ends, for every degree from some degree on.
+-- This product's own; the variance is V2 - V^2, and the equivalence premium B / P.
 use Rattle.std.specs.Prelude.{ℕ, ◌^◌, ◌≤◌, ℤ, pos, ◌-ℤ◌}
 use Rattle.frac_laws.specs.Fraction.{Fraction, whole, ◌*ℚ◌, ◌-ℚ◌, ◌≤ℚ◌, ◌<ℚ◌}
 use Rattle.frac_laws.specs.Ledger.{tolerance_first, tolerance_second, tolerance_variance}
@@ -6,7 +7,8 @@ use Rattle.model_specs.specs.Whole.{natural_part}
 use Rattle.model_specs.specs.Product.{Product}
 use Rattle.model_specs.specs.Payments.{payment_plan, pattern_plan}
 use Rattle.model_specs.specs.Ledgers.{scale, radius, radius_forward, second_radius}
-use Rattle.model_specs.specs.Runs.{reserve, value_before_issue, benefits, pattern_value, second_moment, probability}
+use Rattle.model_specs.specs.Runs.{reserve, value_before_issue, benefits, pattern_value, second_moment}
+use Rattle.model_specs.specs.Runs.{probability}
 
 -- the kinds of numbers that a row may hold
 pub data RowKind : Type 0 where

@@ -1,5 +1,5 @@
-//! Small runs, beside numbers that were computed by hand or by another program's exact fractions. Each function
-//! says what they are and returns at once.
+//! Small runs, beside numbers that were computed by hand or by another program's exact fractions. Each
+//! function says what they are and returns at once.
 
 ghost use Rattle.model_specs.specs.RunInstances.{IntensityInCells, ReserveOfLastCell};
 ghost use Rattle.model_specs.specs.RunInstances.{MomentOfLastCell, OccupancyOfFirstCell};
