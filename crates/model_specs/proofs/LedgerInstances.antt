@@ -1,13 +1,12 @@
 -- The ledgers of the small products, computed.
-use Rattle.std.specs.Prelude.{◌≡◌, ℕ, ◌^◌, refl}
+use Rattle.std.specs.Prelude.{◌≡◌, ◌^◌, refl}
 use Rattle.std.proofs.Common.{ap, ◌∙◌, lit<, lit≤}
 use Rattle.frac_laws.specs.Ledger.{scale_of_bound}
-use Rattle.model_specs.specs.Product.{Product}
-use Rattle.model_specs.specs.Payments.{payment_plan, pattern_plan}
-use Rattle.model_specs.specs.Ledgers.{bound1024, scale, radius, second_radius, second_before_term}
-use Rattle.model_specs.specs.Examples.{flat_annuity, discounted_lump, century_lump, largest_annuity}
+use Rattle.model_specs.specs.Payments.{payment_plan}
+use Rattle.model_specs.specs.Ledgers.{bound1024, scale, second_before_term}
+use Rattle.model_specs.specs.Examples.{flat_annuity, discounted_lump}
 use Rattle.model_specs.specs.LedgerInstances.{FlatLedgers, FlatPay, DiscountedLedgers, DiscountedGrowth}
-use Rattle.model_specs.specs.LedgerInstances.{CenturyScales, FallingNumerators, GrowingLoads, FallingRates}
+use Rattle.model_specs.specs.LedgerInstances.{FallingNumerators, GrowingLoads, FallingRates}
 use Rattle.model_specs.proofs.Scales.{scale_between}
 
 flat_bound : bound1024 flat_annuity (payment_plan flat_annuity) ≡ 786432

@@ -15,3 +15,8 @@ scale_between bound g above within = sym (scale_is_scale_of_bound bound (suc g)
       | inl less ↦ omega arith
       | inr most ↦ absurd (omega (arith, above, enough, pow_mono {i = h} {j = g} most))
     ]
+
+-- a bound of at most 1024 has the scale 0
+pub scale_zero : (bound : ℕ) → bound ≤ 1024 → scale_of_bound bound ≡ 0
+scale_zero bound within = sym (scale_is_scale_of_bound bound 0
+    (record { enough = omega (arith, within); least = λ h enough. omega arith }))

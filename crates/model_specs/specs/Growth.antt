@@ -1,9 +1,9 @@
 -- Growth of an error over a cell, and load and pay of payments. This product's own.
-use Rattle.std.specs.Prelude.{ℕ, ◌+◌, ◌-◌, ◌*◌, ◌^◌, ◌-ℤ◌, unsigned_abs, map, sum, length}
+use Rattle.std.specs.Prelude.{ℕ, ◌+◌, ◌-◌, ◌*◌, ◌^◌, ◌-ℤ◌, unsigned_abs, map, sum, length, List, [], ◌∷◌}
 use Rattle.std.specs.Int.{div_ceil}
 use Rattle.model_specs.specs.Whole.{list_of, greatest_whole, least_whole, greatest_natural, natural_part}
 use Rattle.model_specs.specs.Product.{Product, Step}
-use Rattle.model_specs.specs.Payments.{Plan, sojourn_at, sum_at}
+use Rattle.model_specs.specs.Payments.{Plan, step_at, sojourn_at, sum_at}
 use Rattle.model_specs.specs.MonthNumbers.{bernstein_numerators, month_unit, greatest_rate, exits, rho, iota, nu}
 
 -- phi40: 2^40 (5 rho + 6 iota) / 768, rounded up
@@ -39,10 +39,11 @@ pay product plan month =
     div_ceil (1024 * greatest_natural (list_of (length product.states) (state_pay product plan month)))
     (192 * month_unit product)
 
--- the size of the sum of transition e: its greatest load over the months of the term
-abbrev pub sum_size : Product → Plan → ℕ → ℕ
-sum_size product plan e = greatest_natural (list_of product.months (λ m. load (sum_at plan e m) m))
+-- the size of a transition's sum over the term: its greatest load over the months, and 0 where nothing is paid
+abbrev pub sum_size : ℕ → List Step → ℕ
+sum_size months [] = 0
+sum_size months (step ∷ steps) = greatest_natural (list_of months (λ m. load (step_at (step ∷ steps) m) m))
 
--- the greatest size of a transition sum
+-- the greatest size of a plan's transition sums
 abbrev pub greatest_sum : Product → Plan → ℕ
-greatest_sum product plan = greatest_natural (list_of (length product.transitions) (sum_size product plan))
+greatest_sum product plan = greatest_natural (map (sum_size product.months) plan.sums)

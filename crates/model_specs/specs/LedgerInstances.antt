@@ -1,7 +1,7 @@
 -- What the ledgers of small products come to, beside numbers that were computed by hand or by another program.
-use Rattle.std.specs.Prelude.{◌≡◌, ℕ, ◌*◌, ◌^◌, ℤ, pos, negsuc, Some, None, [], ◌∷◌}
+use Rattle.std.specs.Prelude.{◌≡◌, ℕ, pos, negsuc, Some, None, [], ◌∷◌}
 use Rattle.model_specs.specs.Product.{Product, Step}
-use Rattle.model_specs.specs.Payments.{payment_plan, pattern_plan, constant_step}
+use Rattle.model_specs.specs.Payments.{payment_plan, pattern_plan}
 use Rattle.model_specs.specs.MonthNumbers.{bernstein_numerators}
 use Rattle.model_specs.specs.Growth.{phi40, kappa40, load, pay}
 use Rattle.model_specs.specs.Ledgers.{bound1024, scale, radius, second_radius}

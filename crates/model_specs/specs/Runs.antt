@@ -75,7 +75,7 @@ abbrev pub before_lumps : Product → Plan → ℕ → Moments → Moments
 before_lumps product plan date v =
     let l : ℕ → Fraction = λ i. whole (lump_at plan date i) in
     record {
-      first = vector_of (length product.states) (λ i. number_at v.first i +ℚ l i);
+      first = add_lists v.first (lump_vector product plan date);
       second = vector_of (length product.states)
           (λ i. number_at v.second i +ℚ whole (pos 2) *ℚ l i *ℚ number_at v.first i +ℚ l i *ℚ l i);
     }

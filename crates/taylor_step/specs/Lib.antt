@@ -1,0 +1,5 @@
+pub mod CanStep
+pub mod Enclosures
+pub mod RoundedRun
+pub mod Strips
+pub mod WholeRun
