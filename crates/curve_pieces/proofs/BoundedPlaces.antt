@@ -1,11 +1,10 @@
 -- Rule 9 at a place, from the piece there.
-use Rattle.std.proofs.Common.{◌≡◌, ℕ, suc, ◌+◌, ◌-◌, ◌<◌, ◌≤◌, List, Bool, length, get_or, arith, refl, ap, sym, subst, ◌∙◌}
-use mathlib.Core.Path.{ap₂}
+use Rattle.std.proofs.Common.{◌≡◌, ℕ, suc, ◌-◌, ◌<◌, List, Bool, length, get_or, arith, ap}
 use Rattle.std.specs.Prelude.{IsTrue, ◌↔◌}
 use Rattle.model_specs.specs.Curve.{zero_piece}
 use Rattle.model_specs.specs.RecordRules.{IsBounded}
 use Rattle.curve_pieces.specs.declared.piece.Piece.{Piece}
-use Rattle.curve_pieces.specs.Records.{record_of, records_of, starts_of}
+use Rattle.curve_pieces.specs.Records.{records_of, starts_of}
 use Rattle.curve_pieces.specs.BrokenRules.{IsBoundedAt}
 use Rattle.curve_pieces.proofs.Starts.{length-records, record-at}
 

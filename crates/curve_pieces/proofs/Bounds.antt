@@ -1,7 +1,6 @@
 -- Powers of a number of months, and products with them.
-use Rattle.std.proofs.Common.{◌≡◌, ℕ, zero, suc, ◌+◌, ◌*◌, ◌^◌, ◌<◌, ◌≤◌, ℤ, pos, List, length, get_or, arith}
-use Rattle.std.proofs.Common.{refl, ap, sym, subst, ◌∙◌, add-one}
-use Rattle.std.specs.Prelude.{unsigned_abs}
+use Rattle.std.proofs.Common.{◌≡◌, ℕ, ◌+◌, ◌*◌, ◌^◌, ◌<◌, ◌≤◌, arith}
+use Rattle.std.proofs.Common.{refl, subst, ◌∙◌, add-one}
 use Rattle.std.proofs.Math.Nat.{mul-le-mul_left, pow-le-pow_left, pow-le-pow_right, pow-suc}
 
 pub months_power : (m i : ℕ) → m ≤ 1200 → i ≤ 5 → m ^ i ≤ 1200 ^ 5

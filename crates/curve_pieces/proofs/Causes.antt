@@ -1,5 +1,5 @@
 -- The first broken place is one place.
-use Rattle.std.proofs.Common.{◌≡◌, ℕ, ◌<◌, ◌≤◌, arith, sym, subst, inl, inr}
+use Rattle.std.proofs.Common.{◌≡◌, ℕ, arith, subst, inl, inr}
 use Rattle.curve_pieces.specs.BrokenRules.{IsFirstBroken}
 use Rattle.curve_pieces.proofs.Starts.{below_or_not}
 

@@ -1,5 +1,5 @@
 -- The polynomial of a cell is the curve there.
-use Rattle.std.proofs.Common.{◌≡◌, ℕ, zero, suc, ◌+◌, ◌-◌, ◌*◌, ◌^◌, ◌<◌, ◌≤◌, ℤ, pos, List, [], ◌∷◌, length}
+use Rattle.std.proofs.Common.{◌≡◌, ℕ, ◌+◌, ◌-◌, ◌*◌, ◌^◌, ◌≤◌, ℤ, pos, List, [], ◌∷◌}
 use Rattle.std.proofs.Common.{arith, refl, ap, sym, ◌∙◌}
 use mathlib.Core.Path.{ap₂}
 use Rattle.frac_laws.specs.Fraction.{Fraction, over, whole, ◌*ℚ◌}
@@ -11,7 +11,7 @@ use Rattle.frac_laws.proofs.ListAlgebra.{scale_list-one}
 use Rattle.frac_laws.proofs.Polynomials.{shifted-stretched, stretched-stretched}
 use Rattle.poly_small.proofs.Units.{all_over-times}
 use Rattle.model_specs.specs.Curve as model
-use Rattle.model_specs.specs.Cells.{Direction, cells_of_32, sign_of, origin_of, curve_cell}
+use Rattle.model_specs.specs.Cells.{Direction, sign_of, origin_of}
 
 pub stretched-one : (p : List Fraction) → stretched (whole (pos 1)) p ≡ p
 stretched-one [] = refl

@@ -1,5 +1,5 @@
 -- The piece that covers a month is the last one that starts at or before it.
-use Rattle.std.proofs.Common.{◌≡◌, ℕ, zero, suc, ◌+◌, ◌-◌, ◌<◌, ◌≤◌, List, [], ◌∷◌, length, get_or, arith, refl, ap, sym}
+use Rattle.std.proofs.Common.{◌≡◌, ℕ, zero, suc, ◌+◌, ◌-◌, ◌<◌, ◌≤◌, List, [], ◌∷◌, length, get_or, arith, refl, ap}
 use Rattle.std.proofs.Common.{◌*◌, ◌^◌, ℤ, pos, true, false, inl, inr, add-one}
 use Rattle.std.specs.Prelude.{nat_le, filter, unsigned_abs}
 use Rattle.std.proofs.Math.Nat.{mul-le-mul_left, pow-le-pow_left}

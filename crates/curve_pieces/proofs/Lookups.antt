@@ -1,10 +1,9 @@
 -- What a look-up of a piece by its month gives.
-use Rattle.std.proofs.Common.{◌≡◌, ℕ, ◌+◌, ◌-◌, ◌<◌, ◌≤◌, List, length, get_or, arith, refl, ap, sym, subst, ◌∙◌}
+use Rattle.std.proofs.Common.{◌≡◌, ℕ, ◌+◌, ◌-◌, ◌<◌, ◌≤◌, List, length, get_or, arith, ap, sym, ◌∙◌}
 use Rattle.model_specs.specs.Curve.{zero_piece, piece_at}
 use Rattle.model_specs.specs.RecordRules.{IsBounded}
 use Rattle.curve_pieces.specs.declared.piece.Piece.{Piece}
 use Rattle.curve_pieces.specs.Records.{record_of, records_of, starts_of}
-use Rattle.curve_pieces.specs.BrokenRules.{StartsInOrder}
 use Rattle.curve_pieces.specs.PiecewiseCurves.{PiecewiseCurve, IsAllowed}
 use Rattle.curve_pieces.proofs.Starts.{length-records, length-starts, record-at, start-at}
 use Rattle.curve_pieces.proofs.Covering.{covering, bounded_there}

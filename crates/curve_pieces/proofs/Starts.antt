@@ -1,6 +1,5 @@
 -- The starts of pieces, place by place.
-use Rattle.std.proofs.Common.{◌≡◌, ℕ, zero, suc, ◌+◌, ◌-◌, ◌<◌, ◌≤◌, List, [], ◌∷◌, length, get_or, arith, refl, ap, inl, inr, ◌⊎◌}
-use Rattle.std.specs.Prelude.{map}
+use Rattle.std.proofs.Common.{◌≡◌, ℕ, zero, suc, ◌+◌, ◌<◌, ◌≤◌, List, [], ◌∷◌, length, get_or, arith, refl, ap, inl, inr, ◌⊎◌}
 use Rattle.curve_pieces.specs.declared.piece.Piece.{Piece}
 use Rattle.model_specs.specs.Curve as model
 use Rattle.curve_pieces.specs.BrokenRules.{StartsInOrder}

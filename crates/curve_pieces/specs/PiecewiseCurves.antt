@@ -1,5 +1,5 @@
 -- What contracts see of a curve.
-use Rattle.std.specs.Prelude.{◌≡◌, ℕ, suc, ◌-◌, ◌<◌, ◌≤◌, List}
+use Rattle.std.specs.Prelude.{ℕ, ◌≤◌, List}
 use Rattle.model_specs.specs.Curve.{Piece}
 use Rattle.model_specs.specs.RecordRules.{piece_starts}
 use Rattle.curve_pieces.specs.BrokenRules.{StartsInOrder, IsBoundedAt}

@@ -1,7 +1,5 @@
-use Rattle.std.proofs.Common.{◌≡◌, ℕ, ◌+◌, ◌<◌, length, true, arith, sym, subst, below_more}
-use Rattle.std.specs.Prelude.{IsTrue}
+use Rattle.std.proofs.Common.{◌<◌, length, arith, below_more}
 use Rattle.curve_pieces.specs.Records.{starts_of}
-use Rattle.curve_pieces.specs.BrokenRules.{StartsInOrder}
 use Rattle.curve_pieces.proofs.Starts.{length-starts, next_place_fits}
 use Rattle.curve_pieces.proofs.rules.first_out_of_order.Goals as goal
 

@@ -1,4 +1,4 @@
-use Rattle.std.proofs.Common.{◌≡◌, ℕ, ◌+◌, ◌<◌, length, true, arith, sym, subst}
+use Rattle.std.proofs.Common.{◌≡◌, ℕ, ◌<◌, length, true, arith, sym, subst}
 use Rattle.curve_pieces.specs.Records.{records_of, starts_of}
 use Rattle.curve_pieces.specs.BrokenRules.{IsBoundedAt, IsFirstBroken}
 use Rattle.curve_pieces.proofs.Starts.{length-starts, place_below}

@@ -1,4 +1,4 @@
-use Rattle.std.proofs.Common.{◌≡◌, ℕ, ◌*◌, ◌^◌, ◌<◌, ◌≤◌, pos, get_or, length, FitsSigned, arith, rules, below_more}
+use Rattle.std.proofs.Common.{◌*◌, ◌^◌, ◌≤◌, pos, get_or, FitsSigned, arith, rules, below_more}
 use Rattle.std.specs.Prelude.{unsigned_abs}
 use Rattle.std.specs.Int.{w64}
 use Rattle.std.proofs.lemmas.Int.{to_z-of_z}

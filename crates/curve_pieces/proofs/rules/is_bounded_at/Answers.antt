@@ -1,4 +1,4 @@
-use Rattle.std.proofs.Common.{◌≡◌, ℕ, ◌+◌, ◌-◌, ◌<◌, ◌≤◌, length, get_or, arith, add-one, sym, ap, subst, ◌∙◌, rules}
+use Rattle.std.proofs.Common.{◌<◌, length, arith, add-one}
 use Rattle.curve_pieces.specs.Records.{starts_of}
 use Rattle.curve_pieces.proofs.Starts.{length-starts, end_above, end_within}
 use Rattle.curve_pieces.proofs.BoundedPlaces.{bounded_at}

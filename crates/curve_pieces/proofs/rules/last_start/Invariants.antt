@@ -1,4 +1,4 @@
-use Rattle.std.proofs.Common.{ℕ, ◌-◌, ◌<◌, ◌≤◌, length, get_or}
+use Rattle.std.proofs.Common.{◌-◌, ◌<◌, ◌≤◌, length, get_or}
 use Rattle.curve_pieces.specs.Records.{starts_of}
 use Rattle.curve_pieces.proofs.rules.last_start.Given as goal
 

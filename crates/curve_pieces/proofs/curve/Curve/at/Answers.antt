@@ -1,6 +1,5 @@
-use Rattle.std.proofs.Common.{◌≡◌, ℕ, ◌<◌, arith, ap, sym, ◌∙◌}
+use Rattle.std.proofs.Common.{arith, ap, ◌∙◌}
 use Rattle.model_specs.specs.Curve.{piece_at}
-use Rattle.curve_pieces.specs.PiecewiseCurves.{PiecewiseCurve}
 use Rattle.curve_pieces.proofs.Starts.{length-starts}
 use Rattle.curve_pieces.proofs.Lookups.{IsFound, found_covers, found_start, found_is_bounded}
 use Rattle.curve_pieces.proofs.curve.Curve.at.Goals as goal

@@ -1,4 +1,4 @@
-use Rattle.std.proofs.Common.{◌≡◌, ℕ, ◌+◌, ◌-◌, ◌*◌, ◌^◌, pos, length, arith, rules, ap, sym, ◌∙◌}
+use Rattle.std.proofs.Common.{◌≡◌, ◌+◌, ◌-◌, ◌*◌, ◌^◌, pos, length, arith, rules, ap, ◌∙◌}
 use Rattle.frac_laws.specs.Fraction.{over}
 use Rattle.frac_laws.specs.Polynomials.{all_over, stretched}
 use Rattle.model_specs.specs.RecordRules.{IsBounded}

@@ -1,6 +1,6 @@
-use Rattle.std.proofs.Common.{◌≡◌, ℕ, Err, ap}
+use Rattle.std.proofs.Common.{◌≡◌, ℕ}
 use Rattle.curve_pieces.specs.Records.{records_of, starts_of}
-use Rattle.curve_pieces.specs.BrokenRules.{StartsInOrder, IsBoundedAt, IsFirstBroken}
+use Rattle.curve_pieces.specs.BrokenRules.{StartsInOrder, IsBoundedAt}
 use Rattle.curve_pieces.proofs.Causes.{first_broken_is_one, cause_at}
 use Rattle.curve_pieces.proofs.curve.Curve.new.Goals as goal
 
