@@ -1,5 +1,5 @@
-pub mod CellEquations
 pub mod CellEntries
+pub mod CellEquations
 pub mod CellShapes
 pub mod CellTables
 pub mod CenturyInstances

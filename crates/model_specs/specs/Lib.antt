@@ -1,14 +1,7 @@
 pub mod Cells
 pub mod Curve
-pub mod Equations
-pub mod Runs
-pub mod Rows
-pub mod Stretches
-pub mod NumberLaws
 pub mod EntryLaws
-pub mod ShapeLaws
-pub mod MomentLaws
-pub mod FlatLaws
+pub mod Equations
 pub mod Examples
 pub mod FlatLaws
 pub mod Growth
