@@ -136,19 +136,4 @@ fn clear_rows(rows: &mut [Row])
 }
 
 #[cfg(test)]
-mod tests {
-    use super::*;
-
-    const MOST: i128 = 1 << 59;
-
-    #[test]
-    fn a_system_is_written_and_cleared(rt: HostRuntime) -> Result<(), AllocError> {
-        let mut system = CellSystem::new(rt.alloc(), 3, 1, &[(0, 2), (2, 0), (1, 0)])?;
-        assert_eq!(rt; (system.dim(), system.degree()), (3, 1));
-        assert_eq!(rt; system.columns(0), [0, 2, 3].as_slice());
-        assert_eq!(rt; system.columns(1), [0, 1, 3].as_slice());
-        assert_eq!(rt; system.columns(2), [0, 2, 3].as_slice());
-        assert_eq!(rt; system.numbers(0), [0, 0, 0, 0, 0, 0].as_slice());
-        Ok(())
-    }
-}
+mod tests;

@@ -23,8 +23,8 @@ pub record IsRoundedDown (x : Fraction) (n : ℕ) (q : Fraction) : Type 0 where
   pub below : whole (pos n) *ℚ q ≤ℚ x
   pub within : x <ℚ whole (pos n) *ℚ (q +ℚ units 1)
 
--- from a start 24 coefficients of at most d numbers follow, each k + 1 times of which is a sum, rounded down to
--- it; the new vector is the sum of all 25
+-- from a start 24 coefficients of at most d numbers follow, each of which is a sum divided by k + 1 and rounded
+-- down; the new vector is the sum of all 25
 pub record IsRoundedRun (d : ℕ) (sums : (k i : ℕ) → Fraction) (start new : Vector) (z : ℕ → Vector) : Type 0
   where
     pub starts : SameNumbers (z 0) start

@@ -45,8 +45,8 @@ pub record StandsFor (stored exact : System) : Type 0 where
   pub matrices : MatricesStandFor 1 exact.dimension stored.matrices exact.matrices
   pub free : VectorsStandFor 3 exact.dimension stored.free exact.free
 
--- a pair of halves of one dimension: the same of each half, and each stored number of C_m is at most three units
--- away
+-- a pair of halves of one dimension: the same of each half, and each stored number of C_m is at most three
+-- units away
 pub record PairStandsFor (stored exact : CoupledPair) : Type 0 where
   pub halves : exact.second.dimension ≡ exact.first.dimension
   pub first : StandsFor stored.first exact.first

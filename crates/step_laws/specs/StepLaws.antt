@@ -16,16 +16,16 @@ abbrev pub most_numbers : Norm → ℕ
 most_numbers Sup = 24
 most_numbers Sum = 12
 
--- y is a start of at most d numbers and of at most some norm, and mid is within rad units of it, where rad is at
--- most 2^45
+-- y is a start of at most d numbers and of at most some norm, and mid is within rad units of it, where rad is
+-- at most 2^45
 pub record IsStartNear (norm : Norm) (d : ℕ) (most : Fraction) (rad : ℕ) (y mid : Vector) : Type 0 where
   pub fits : length y ≤ d
   pub small : norm_of_vector norm y ≤ℚ most
   pub near : distance norm y mid ≤ℚ units rad
   pub radius : rad ≤ 2 ^ 45
 
--- a step of a stored system that stands for a tame one, beside a start of norm at most 2: the Taylor value of each
--- degree from 24 on is within the grown radius of the new vector
+-- a step of a stored system that stands for a tame one, beside a start of norm at most 2: the Taylor value of
+-- each degree from 24 on is within the grown radius of the new vector
 abbrev pub StepsStayWithinTheirRadius : Type 0
 StepsStayWithinTheirRadius =
     (norm : Norm) (kappa40 rad n : ℕ) (stored exact : System) (y mid new : Vector) (z : ℕ → Vector)

@@ -95,7 +95,7 @@ below_weighted : (n : ℕ) (f : ℕ → Fraction) → IsNatural f → sum_to n f
 below_weighted n f h = sums_ordered n f (weighted f)
     (λ m b. linear (f m ∷ power (whole (pos 8)) m ∷ []) (one_le_eights m ⊠ h m) (hlevel claims) refl)
 
-coupling_total : (kappa40 : ℕ) (c : Fraction) (p : CoupledPair) → IsTamePair kappa40 c p
+pub coupling_total : (kappa40 : ℕ) (c : Fraction) (p : CoupledPair) → IsTamePair kappa40 c p
     → total_norm Sup p.coupling ≤ℚ over (pos 10) 64
 coupling_total kappa40 c p tame =
     le_trans (below_weighted (length p.coupling) (matrix_norm_at Sup p.coupling) (matrix_norms_natural Sup p.coupling))

@@ -4,9 +4,6 @@ pub mod FitsByRows
 pub mod FitsBySums
 pub mod Floors
 pub mod Promise
-pub mod PromisePair
-pub mod PromiseRuns
-pub mod PromiseVectors
 pub mod RowProducts
 pub mod Rows
 pub mod Scaled

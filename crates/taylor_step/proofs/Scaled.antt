@@ -58,8 +58,9 @@ pub free-later : (s : StoredSystem) (mid : List ℤ) (k : ℕ) → coefficient s
 unfolding past
 free-later s mid k = past_rows s (past s mid k) k
 
-pub beyond : (r : StoredRow) (top j m : ℕ) → length r.numbers ≡ (top + 1) * length r.columns → top + 1 ≤ m → number_in_row r j m ≡ pos 0
-beyond r top j m l h = cases (nat_eq (place_of r.columns j) (length r.columns)) (get_or_past r.numbers (m * length r.columns + place_of r.columns j) (pos 0) (far top m (length r.columns) _ _ l h))
+-- past the greatest power a row has no number
+pub number_beyond : (r : StoredRow) (top j m : ℕ) → length r.numbers ≡ (top + 1) * length r.columns → top + 1 ≤ m → number_in_row r j m ≡ pos 0
+number_beyond r top j m l h = cases (nat_eq (place_of r.columns j) (length r.columns)) (get_or_past r.numbers (m * length r.columns + place_of r.columns j) (pos 0) (far top m (length r.columns) _ _ l h))
   where
     far : (top m w p n : ℕ) → n ≡ (top + 1) * w → top + 1 ≤ m → n ≤ m * w + p
     far top m w p n e h = grind arith
@@ -68,7 +69,7 @@ beyond r top j m l h = cases (nat_eq (place_of r.columns j) (length r.columns)) 
     cases true g = refl
     cases false g = g
 
-no_units : units (pos 0) ≡ whole (pos 0)
+pub no_units : units (pos 0) ≡ whole (pos 0)
 no_units = units_is (pos 0) ∙ ring [] (hlevel terms) refl
 
 nothing_times : (x : Fraction) → units (pos 0) *ℚ x ≡ whole (pos 0)
@@ -100,7 +101,7 @@ module _ (s : StoredSystem) (mid : List ℤ) (sys : IsSystem s) (long : length m
 
   term-far : (k m : ℕ) → suc s.degree ≤ m → term k m ≡ whole (pos 0)
   unfolding term
-  term-far k m h = sums_equal (dim_of s) _ (λ j. whole (pos 0)) (λ j c. ap (λ z. units z *ℚ units (past s mid k m j)) (beyond (row_of s i) s.degree j m row.full (omega arith)) ∙ nothing_times (units (past s mid k m j))) ∙ sum_to_zero (dim_of s)
+  term-far k m h = sums_equal (dim_of s) _ (λ j. whole (pos 0)) (λ j c. ap (λ z. units z *ℚ units (past s mid k m j)) (number_beyond (row_of s i) s.degree j m row.full (omega arith)) ∙ nothing_times (units (past s mid k m j))) ∙ sum_to_zero (dim_of s)
 
   term-early : (k m : ℕ) → suc k ≤ m → term k m ≡ whole (pos 0)
   unfolding term
@@ -108,7 +109,7 @@ module _ (s : StoredSystem) (mid : List ℤ) (sys : IsSystem s) (long : length m
 
   last-far : (k m : ℕ) → suc s.degree ≤ m → last k m ≡ whole (pos 0)
   unfolding last
-  last-far k m h = ap (λ z. units z *ℚ units (past s mid k m (dim_of s))) (beyond (row_of s i) s.degree (dim_of s) m row.full (omega arith)) ∙ nothing_times (units (past s mid k m (dim_of s)))
+  last-far k m h = ap (λ z. units z *ℚ units (past s mid k m (dim_of s))) (number_beyond (row_of s i) s.degree (dim_of s) m row.full (omega arith)) ∙ nothing_times (units (past s mid k m (dim_of s)))
 
   last-early : (k m : ℕ) → suc k ≤ m → last k m ≡ whole (pos 0)
   unfolding last

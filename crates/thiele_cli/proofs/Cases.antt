@@ -1,13 +1,12 @@
 -- What the words and the told file lead to is one thing only.
-use Rattle.std.proofs.Common.{◌≡◌, ℕ, ◌≤◌, ◌<◌, List, length, Option, Some, None, IsSome, ◌⊎◌, inl}
+use Rattle.std.proofs.Common.{◌≡◌, ℕ, List, Some, None, IsSome, inl}
 use Rattle.std.proofs.Common.{inr, sym, ◌∙◌, arith, refl}
-use Rattle.io_ports.specs.Files.{file_of}
 use Rattle.product_reader.specs.FlatFile.{HasFlat, IsNotToml, IsNotFlat}
 use Rattle.product_reader.specs.FlatTree.{FlatProduct}
 use Rattle.product_reader.proofs.FlatFiles.{not_toml_has_no_product, not_toml_excludes_not_flat}
 use Rattle.product_reader.proofs.FlatFiles.{not_flat_has_no_product}
 use Rattle.thiele_cli.specs.Words.{AsksValue, AskForValue}
-use Rattle.thiele_cli.specs.Causes.{Files, NamesFile, IsLong, NameLongFile}
+use Rattle.thiele_cli.specs.Causes.{Files, NamesFile, NameLongFile}
 
 -- the files that words can name
 pub data Case : Type 0 where

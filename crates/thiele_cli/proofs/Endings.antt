@@ -1,5 +1,5 @@
 -- From the case of the words and the file to the end of a run, and back.
-use Rattle.std.proofs.Common.{◌≡◌, ℕ, ◌<◌, pos, List, [], ◌∷◌, ◌++◌, length, append-nil, Option, Some}
+use Rattle.std.proofs.Common.{◌≡◌, ℕ, ◌<◌, List, [], ◌∷◌, ◌++◌, length, append-nil, Option, Some}
 use Rattle.std.proofs.Common.{None, IsSome, IsSomeAnd, ◌⊎◌, inl, inr, sym, ◌∙◌, refl, ap, arith}
 use Rattle.std.proofs.Common.{length-append}
 use Rattle.product_reader.specs.FlatTree.{FlatProduct}

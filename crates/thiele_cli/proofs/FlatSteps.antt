@@ -1,5 +1,6 @@
 -- A step of a flat product's sweep may be taken, and keeps the midpoint.
-use Rattle.std.specs.Prelude.{◌≡◌, ℕ, zero, suc, pos, ◌^◌, ◌≤◌, ◌<◌, ℤ, unsigned_abs, length, slice_index_or, List, [], ◌∷◌}
+use Rattle.std.specs.Prelude.{◌≡◌, ℕ, zero, suc, pos, ◌^◌, ◌≤◌, ◌<◌, ℤ, unsigned_abs, length, slice_index_or}
+use Rattle.std.specs.Prelude.{List, [], ◌∷◌}
 use Rattle.std.proofs.Common.{refl, ap, sym, ◌∙◌, arith}
 use Rattle.frac_laws.specs.Norms.{Sup}
 use Rattle.linear_system.specs.StoredSystem.{StoredSystem}
@@ -23,12 +24,15 @@ swept_most p g cells mid ranges is_scale few held =
       (omega (arith, radius_most p cells ranges few)) (rw is_scale at held)
 
 -- a step may be taken
-pub can_step : (p : FlatProduct) (g cells : ℕ) (s : StoredSystem) (mid : List ℤ) → HasRanges p → g ≡ scale p → cells ≤ cells_of p
+pub can_step : (p : FlatProduct) (g cells : ℕ) (s : StoredSystem) (mid : List ℤ) → HasRanges p → g ≡ scale p
+    → cells ≤ cells_of p
     → StandsFor s (flat_system p g) → length mid ≡ 1
-    → IsMidpoint p g cells (slice_index_or mid 0 (pos 0)) (ledger_after (kappa40 p) 1024 cells) → CanStep s mid
+    → IsMidpoint p g cells (slice_index_or mid 0 (pos 0)) (ledger_after (kappa40 p) 1024 cells)
+        → CanStep s mid
 can_step p g cells s [] ranges is_scale few stands one held = cc
 can_step p g cells s (x ∷ []) ranges is_scale few stands one held =
-    in_sup (flat_system p g) (kappa40 p) stands (flat_system_tame p g (kappa40 p) ranges (rw is_scale (rate_within_scale p ranges))) at_most
+    in_sup (flat_system p g) (kappa40 p) stands (flat_system_tame p g (kappa40 p) ranges
+        (rw is_scale (rate_within_scale p ranges))) at_most
   where
     at_most : AreAtMost (2 ^ 65) (x ∷ [])
     at_most zero = swept_most p g cells x ranges is_scale few held
@@ -36,16 +40,21 @@ can_step p g cells s (x ∷ []) ranges is_scale few stands one held =
 can_step p g cells s (x ∷ y ∷ mid) ranges is_scale few stands one held = cc
 
 -- and keeps the midpoint at the next cell
-pub stepped : (p : FlatProduct) (g cells next degree : ℕ) (old new : List ℤ) → HasRanges p → g ≡ scale p → cells < cells_of p
+pub stepped : (p : FlatProduct) (g cells next degree : ℕ) (old new : List ℤ) → HasRanges p → g ≡ scale p
+    → cells < cells_of p
     → next ≡ suc cells → degree ≡ 24 → length old ≡ 1 → length new ≡ 1
     → Encloses Sup (flat_system p g) (kappa40 p) old new degree
     → IsMidpoint p g cells (slice_index_or old 0 (pos 0)) (ledger_after (kappa40 p) 1024 cells)
     → IsMidpoint p g next (slice_index_or new 0 (pos 0)) (ledger_after (kappa40 p) 1024 next)
 stepped p g cells next degree [] new ranges is_scale few is_next is_degree one one_new encloses held = cc
-stepped p g cells next degree (x ∷ y ∷ old) new ranges is_scale few is_next is_degree one one_new encloses held = cc
+stepped p g cells next degree (x ∷ y ∷ old) new ranges is_scale few is_next is_degree one one_new encloses
+    held = cc
 stepped p g cells next degree (x ∷ []) [] ranges is_scale few is_next is_degree one one_new encloses held = cc
-stepped p g cells next degree (x ∷ []) (z ∷ y ∷ new) ranges is_scale few is_next is_degree one one_new encloses held = cc
-stepped p g cells next degree (x ∷ []) (z ∷ []) ranges is_scale few is_next is_degree one one_new encloses held =
+stepped p g cells next degree (x ∷ []) (z ∷ y ∷ new) ranges is_scale few is_next is_degree one one_new
+    encloses held = cc
+stepped p g cells next degree (x ∷ []) (z ∷ []) ranges is_scale few is_next is_degree one one_new encloses
+    held =
     let promise : StepEncloses (flat_system p g) (kappa40 p) x z = λ y rad n fits small limit near from.
       encloses y rad n fits small limit near (rw is_degree from) in
-    rw (is_next, is_scale) (midpoint_before_cell p cells x z ranges few (rw is_scale at held) (rw is_scale at promise))
+    rw (is_next, is_scale) (midpoint_before_cell p cells x z ranges few (rw is_scale at held)
+        (rw is_scale at promise))

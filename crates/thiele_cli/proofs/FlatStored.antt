@@ -1,5 +1,6 @@
 -- The stored system of a flat product's cell stands for the exact one.
-use Rattle.std.specs.Prelude.{◌≡◌, ℕ, zero, suc, pos, ◌*◌, ◌^◌, ◌≤◌, ◌<◌, ℤ, ◌*ℤ◌, ◌≤ℤ◌, neg_ℤ, nat_abs, length, cond, nat_eq, ◌&&◌, [], ◌∷◌}
+use Rattle.std.specs.Prelude.{◌≡◌, ℕ, zero, suc, pos, ◌*◌, ◌^◌, ◌≤◌, ◌<◌, ℤ, ◌*ℤ◌, ◌≤ℤ◌, neg_ℤ, nat_abs}
+use Rattle.std.specs.Prelude.{length, cond, nat_eq, ◌&&◌, [], ◌∷◌}
 use Rattle.std.proofs.Common.{refl, ap, sym, ◌∙◌, arith}
 use Rattle.std.proofs.Math.Dec.{eqb-suc-zero}
 use Rattle.frac_laws.specs.Fraction.{Fraction, whole, over, ◌-ℚ◌, ◌*ℚ◌, ◌≤ℚ◌, opposite, size}
@@ -28,7 +29,8 @@ pub record StoresTwo (s : StoredSystem) (a f : ℤ) : Type 0 where
   pub no_more_free : (m : ℕ) → stored_number s 0 1 (suc m) ≡ pos 0
 
 -- after both are set
-pub stores_two : (made set both : StoredSystem) (a f : ℤ) → dim_of made ≡ 1 → HasNoNumbers made → SetsOnly made set 0 0 0 a
+pub stores_two : (made set both : StoredSystem) (a f : ℤ) → dim_of made ≡ 1 → HasNoNumbers made
+    → SetsOnly made set 0 0 0 a
     → SetsOnly set both 0 (dim_of set) 0 f → StoresTwo both a f
 stores_two made set both a f one none first second =
     let dim : dim_of set ≡ 1 = first.places.dim ∙ one in
@@ -40,7 +42,8 @@ stores_two made set both a f one none first second =
       no_more = λ m. free 0 0 (suc m) ∙ first.numbers 0 0 (suc m)
         ∙ ap (λ here. cond here a (stored_number made 0 0 (suc m))) (eqb-suc-zero m) ∙ none 0 0 (suc m);
       no_more_free = λ m. free 0 1 (suc m)
-        ∙ ap (λ here. cond (nat_eq 0 0 && (nat_eq 1 1 && here)) f (stored_number set 0 1 (suc m))) (eqb-suc-zero m)
+        ∙ ap (λ here. cond (nat_eq 0 0 && (nat_eq 1 1 && here)) f (stored_number set 0 1 (suc m)))
+            (eqb-suc-zero m)
         ∙ first.numbers 0 1 (suc m) ∙ none 0 1 (suc m);
     }
 
@@ -53,7 +56,8 @@ nothing_near error z none =
       ap (λ x. whole (pos 0) -ℚ x) zero_units ∙ ring [] (hlevel terms) refl in
     le_trans (le_of_equal (ap size difference ∙ size_zero)) (natural error (2 ^ 64))
 
-matrices_near : (s : StoredSystem) (x : Fraction) (a f : ℤ) → StoresTwo s a f → size (x -ℚ units a) ≤ℚ units (pos 1)
+matrices_near : (s : StoredSystem) (x : Fraction) (a f : ℤ) → StoresTwo s a f
+    → size (x -ℚ units a) ≤ℚ units (pos 1)
     → MatricesStandNear 1 1 (stored_number s) (((x ∷ []) ∷ []) ∷ [])
 matrices_near s x a f two near = record {
   near = close;
@@ -62,7 +66,9 @@ matrices_near s x a f two near = record {
   no_more = none;
 }
   where
-    close : (row col m : ℕ) → row < 1 → col < 1 → size (number_at (vector_at (matrix_at (((x ∷ []) ∷ []) ∷ []) m) row) col -ℚ units (stored_number s row col m)) ≤ℚ units (pos 1)
+    close : (row col m : ℕ) → row < 1 → col < 1 → size
+        (number_at (vector_at (matrix_at (((x ∷ []) ∷ []) ∷ []) m) row) col -ℚ units
+        (stored_number s row col m)) ≤ℚ units (pos 1)
     close zero zero zero row_in col_in = rw two.first near
     close zero zero (suc m) row_in col_in = nothing_near 1 (stored_number s 0 0 (suc m)) (two.no_more m)
     close (suc row) col m row_in col_in = absurd (omega arith)
@@ -74,11 +80,13 @@ matrices_near s x a f two near = record {
     few_columns zero zero = omega arith
     few_columns zero (suc row) = omega arith
     few_columns (suc m) row = omega arith
-    none : (row col m : ℕ) → 12 ≤ m → number_at (vector_at (matrix_at (((x ∷ []) ∷ []) ∷ []) m) row) col ≡ whole (pos 0)
+    none : (row col m : ℕ) → 12 ≤ m → number_at (vector_at (matrix_at (((x ∷ []) ∷ []) ∷ []) m) row) col ≡
+        whole (pos 0)
     none row col zero past = absurd (omega arith)
     none row col (suc m) past = refl
 
-vectors_near : (s : StoredSystem) (x : Fraction) (a f : ℤ) → StoresTwo s a f → size (x -ℚ units f) ≤ℚ units (pos 3)
+vectors_near : (s : StoredSystem) (x : Fraction) (a f : ℤ) → StoresTwo s a f
+    → size (x -ℚ units f) ≤ℚ units (pos 3)
     → VectorsStandNear 3 1 (stored_free s) ((x ∷ []) ∷ [])
 vectors_near s x a f two near = record {
   near = close;
@@ -86,7 +94,8 @@ vectors_near s x a f two near = record {
   no_more = none;
 }
   where
-    close : (row m : ℕ) → row < 1 → size (number_at (vector_at ((x ∷ []) ∷ []) m) row -ℚ units (stored_free s row m)) ≤ℚ units (pos 3)
+    close : (row m : ℕ) → row < 1 → size (number_at (vector_at ((x ∷ []) ∷ []) m) row -ℚ units
+        (stored_free s row m)) ≤ℚ units (pos 3)
     close zero zero row_in = rw (two.dim, two.free) near
     close zero (suc m) row_in = nothing_near 3 (stored_free s 0 (suc m)) (rw two.dim (two.no_more_free m))
     close (suc row) m row_in = absurd (omega arith)
@@ -98,14 +107,18 @@ vectors_near s x a f two near = record {
     none row (suc m) past = refl
 
 -- the system with the two rounded numbers stands for the exact one
-pub stands_for : (p : FlatProduct) (g : ℕ) (made set both : StoredSystem) (a f : ℤ) → pos 1 ≤ℤ p.den → IsMadeFor 1 0 [] made → HasNoNumbers made
+pub stands_for : (p : FlatProduct) (g : ℕ) (made set both : StoredSystem) (a f : ℤ) → pos 1 ≤ℤ p.den
+    → IsMadeFor 1 0 [] made → HasNoNumbers made
     → SetsOnly made set 0 0 0 a → SetsOnly set both 0 (dim_of set) 0 f
-    → a ≡ floor_of (neg_ℤ p.interest *ℤ pos (2 ^ 64)) (pos (384 * nat_abs p.den)) → f ≡ floor_of (p.rate *ℤ pos (2 ^ 64)) (pos (384 * 2 ^ g))
+    → a ≡ floor_of (neg_ℤ p.interest *ℤ pos (2 ^ 64)) (pos (384 * nat_abs p.den))
+        → f ≡ floor_of (p.rate *ℤ pos (2 ^ 64)) (pos (384 * 2 ^ g))
     → StandsFor both (flat_system p g)
 stands_for p g made set both a f some is_made none first second is_interest is_payment =
     let two = stores_two made set both a f is_made.dim_is none first second in
     record {
       dimension = sym two.dim;
-      matrices = rw two.dim (matrices_near both (opposite (cell_interest p)) a f two (rw is_interest (interest_near p some)));
-      free = rw two.dim (vectors_near both (cell_payment p *ℚ scaling g) a f two (rw is_payment (payment_near p g)));
+      matrices = rw two.dim (matrices_near both (opposite (cell_interest p)) a f two
+          (rw is_interest (interest_near p some)));
+      free = rw two.dim (vectors_near both (cell_payment p *ℚ scaling g) a f two
+          (rw is_payment (payment_near p g)));
     }

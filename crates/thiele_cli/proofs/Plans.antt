@@ -1,6 +1,6 @@
 -- From the answer of a shelf and the bytes of a file to the answer of a run.
 use Rattle.std.proofs.Common.{◌≡◌, ℕ, zero, suc, ◌≤◌, ℤ, pos, negsuc, List, length, codes, Option, Some}
-use Rattle.std.proofs.Common.{None, Ok, Err, Vec, Global, ◌⊎◌, inl, inr, refl}
+use Rattle.std.proofs.Common.{None, Ok, Vec, Global, ◌⊎◌, inl, inr, refl}
 use Rattle.io_ports.specs.Files.{AnswersFrom}
 use Rattle.product_reader.specs.FlatFile.{HasFlat}
 use Rattle.product_reader.specs.FlatTree.{FlatProduct}

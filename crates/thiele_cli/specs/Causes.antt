@@ -1,5 +1,5 @@
 -- Why a run ends as it does, for its words and the files that its shelf tells.
-use Rattle.std.specs.Prelude.{◌≡◌, ℕ, ◌<◌, ◌≤◌, List, ⊤, Option, Some, None, IsSome, ◌⊎◌, length}
+use Rattle.std.specs.Prelude.{◌≡◌, ℕ, ◌≤◌, List, ⊤, Option, Some, None, IsSome, ◌⊎◌, length}
 use Rattle.io_ports.specs.Files.{file_of, IsLonger}
 use Rattle.product_reader.specs.FlatFile.{HasFlat, IsNotToml, IsNotFlat}
 use Rattle.product_reader.specs.FlatTree.{FlatProduct}

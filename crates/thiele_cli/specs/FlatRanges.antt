@@ -2,7 +2,8 @@
 use Rattle.std.specs.Prelude.{ℕ, ◌^◌, ◌≤◌, pos, ◌*ℤ◌, ◌≤ℤ◌, nat_abs}
 use Rattle.product_reader.specs.FlatTree.{FlatProduct}
 
--- the term is from 1 to 1200 months, the denominator from 1 to 10^12, the force of interest from 0 to a quarter per
+-- the term is from 1 to 1200 months, the denominator from 1 to 10^12, the force of interest from 0 to a
+-- quarter per
 -- year, and the payment rate at most 10^12 minor units per year in size
 pub record HasRanges (p : FlatProduct) : Type 0 where
   pub least_months : 1 ≤ p.months

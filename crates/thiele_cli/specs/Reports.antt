@@ -1,5 +1,5 @@
 -- What a report of the value of a flat product says, and that it is right.
-use Rattle.std.specs.Prelude.{◌≡◌, ℕ, ◌≤◌, ◌*◌, ◌^◌, ℤ, pos, ◌+ℤ◌, ◌-ℤ◌, ◌*ℤ◌, ◌≤ℤ◌, List, [], ◌∷◌}
+use Rattle.std.specs.Prelude.{◌≡◌, ℕ, ◌≤◌, ◌*◌, ◌^◌, ℤ, pos, ◌+ℤ◌, ◌-ℤ◌, ◌*ℤ◌, ◌≤ℤ◌, [], ◌∷◌}
 use Rattle.frac_laws.specs.Fraction.{whole, ◌*ℚ◌, ◌≤ℚ◌}
 use Rattle.frac_laws.specs.Rounding.{floor_of, ceiling_of}
 use Rattle.product_reader.specs.FlatTree.{FlatProduct}

@@ -17,5 +17,7 @@ returns c =
     let paid = simp to_z-of_z at c.payment_number.ensures.value in
     let first = simp to_z-of_z at c.set.ensures in
     let second = simp to_z-of_z at c.set_free.ensures in
-    stands_for (product_of c.args.flat.now) c.args.scale _ _ _ c.interest_number.result c.payment_number.result
-      c.requires.ranges.least_den c.in_ok-system.ensures.made c.in_ok-system.ensures.zero first second taken paid
+    stands_for (product_of c.args.flat.now) c.args.scale _ _ _ c.interest_number.result
+        c.payment_number.result
+      c.requires.ranges.least_den c.in_ok-system.ensures.made c.in_ok-system.ensures.zero first second taken
+          paid

@@ -9,7 +9,8 @@ pub returns-clause-steps : goal.returns-clause-steps
 returns-clause-steps c = runs_are_taylor_values
 
 pub returns-clause-tame : goal.returns-clause-tame
-returns-clause-tame c = λ p ranges. flat_system_tame p (scale p) (kappa40 p) ranges (rate_within_scale p ranges)
+returns-clause-tame c = λ p ranges. flat_system_tame p (scale p) (kappa40 p) ranges
+    (rate_within_scale p ranges)
 
 pub returns-clause-within : goal.returns-clause-within
 returns-clause-within c = λ p n cells ranges some few. values_within_scale p n cells ranges some few

@@ -1,4 +1,4 @@
-use Rattle.std.proofs.Common.{◌≡◌, ◌++◌, ◌∙◌, ap, sym, pos, append_assoc, get_or}
+use Rattle.std.proofs.Common.{◌++◌, ◌∙◌, ap, sym, pos, append_assoc, get_or}
 use Rattle.product_reader.specs.Flat.{product_of}
 use Rattle.thiele_cli.specs.declared.report.Row.{Row}
 use Rattle.thiele_cli.specs.declared.report.What.TheVariants.{Value}

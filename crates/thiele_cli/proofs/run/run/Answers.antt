@@ -1,5 +1,3 @@
-use Rattle.std.proofs.Common.{arith, ◌≡◌, ◌⊎◌, inl, inr}
-use Rattle.thiele_cli.specs.Words.{words_of}
 use Rattle.thiele_cli.specs.declared.end.End.TheVariants.{Done, NotBuilt, NotToml, TooLong}
 use Rattle.thiele_cli.proofs.Endings.{comes, reported, done_or_memory, not_a_write_fault, ends_valued}
 use Rattle.thiele_cli.proofs.Endings.{ends_unbuilt, ends_no_toml, ends_too_long, cause_done, cause_unbuilt}
