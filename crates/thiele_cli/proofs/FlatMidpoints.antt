@@ -15,6 +15,8 @@ use Rattle.frac_laws.proofs.Sizes.{le_of_size_le, opposite_le_of_size_le}
 use Rattle.frac_laws.proofs.Norms.{size_zero}
 use Rattle.cell_laws.specs.Systems.{System, taylor_value}
 use Rattle.cell_laws.specs.ErrorLaws.{distance}
+use Rattle.step_laws.specs.StepLaws.{IsStartNear}
+use Rattle.taylor_step.specs.Enclosures.{Encloses}
 use Rattle.product_reader.specs.FlatTree.{FlatProduct}
 use Rattle.thiele_cli.specs.FlatRun.{value_before_term, cells_of}
 use Rattle.thiele_cli.specs.FlatLedger.{kappa40, ledger_after, scale}
@@ -24,15 +26,6 @@ use Rattle.thiele_cli.proofs.FlatTame.{norm-single}
 use Rattle.thiele_cli.proofs.FlatTaylor.{runs_are_taylor_values}
 use Rattle.thiele_cli.proofs.FlatMoments.{scaled_value, distance-single, values_within_scale}
 use Rattle.thiele_cli.proofs.LedgerSizes.{grow_mono, kappa40_most, ledger_after_most, cells_most}
-
--- what a step promises of a system of one number: every start of norm at most 2 within a radius of the old
--- number has
--- its Taylor values, from degree 24 on, within the grown radius of the new one
-abbrev pub StepEncloses : System → ℕ → ℤ → ℤ → Type 0
-StepEncloses e kappa old new =
-    (y : Vector) (rad n : ℕ) → length y ≤ e.dimension → norm_of_vector Sup y ≤ℚ whole (pos 2) → rad ≤ 2 ^ 45
-    → distance Sup y (over old (2 ^ 64) ∷ []) ≤ℚ over (pos rad) (2 ^ 64) → 24 ≤ n
-    → distance Sup (taylor_value e y n) (over new (2 ^ 64) ∷ []) ≤ℚ over (pos (grow rad kappa 1023)) (2 ^ 64)
 
 -- the radius up to the cells of the term
 pub radius_most : (p : FlatProduct) (cells : ℕ) → HasRanges p → cells ≤ cells_of p
@@ -57,7 +50,7 @@ midpoint_at_term p g n from =
 -- a step keeps it
 pub midpoint_before_cell : (p : FlatProduct) (cells : ℕ) (old new : ℤ) → HasRanges p → cells < cells_of p
     → IsMidpoint p (scale p) cells old (ledger_after (kappa40 p) 1024 cells)
-        → StepEncloses (flat_system p (scale p)) (kappa40 p) old new
+        → Encloses Sup (flat_system p (scale p)) (kappa40 p) (old ∷ []) (new ∷ []) 24
     → IsMidpoint p (scale p) (suc cells) new (ledger_after (kappa40 p) 1024 (suc cells))
 midpoint_before_cell p cells old new ranges few before step n from =
     let g = scale p in
@@ -67,8 +60,14 @@ midpoint_before_cell p cells old new ranges few before step n from =
         (linear (size (scaled_value p g n cells) ∷ [])
             (values_within_scale p n cells ranges (omega (arith, from)) (omega (arith, few))) (hlevel claims)
             refl) in
-    let after = step (scaled_run p g n cells) radius n (omega arith) small
-      (omega (arith, radius_most p cells ranges (omega (arith, few)))) (before n from) from in
+    let start : IsStartNear Sup 1 (whole (pos 2)) radius (scaled_run p g n cells) (over old (2 ^ 64) ∷ []) =
+        record {
+      fits = omega arith;
+      small = small;
+      near = before n from;
+      radius = omega (arith, radius_most p cells ranges (omega (arith, few)));
+    } in
+    let after = step (scaled_run p g n cells) radius n start from in
     let more : grow radius (kappa40 p) 1023 ≤ grow radius (kappa40 p) 1024 =
         grow_mono radius radius (kappa40 p) 1023 1024 (omega arith) (omega arith) in
     let units : over (pos (grow radius (kappa40 p) 1023)) (2 ^ 64) ≤ℚ over

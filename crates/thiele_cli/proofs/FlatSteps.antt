@@ -13,7 +13,7 @@ use Rattle.thiele_cli.specs.FlatLedger.{kappa40, ledger_after, scale}
 use Rattle.thiele_cli.specs.FlatSystem.{flat_system, IsMidpoint}
 use Rattle.thiele_cli.specs.FlatRanges.{HasRanges}
 use Rattle.thiele_cli.proofs.FlatTame.{flat_system_tame}
-use Rattle.thiele_cli.proofs.FlatMidpoints.{StepEncloses, midpoint_before_cell, midpoint_most, radius_most}
+use Rattle.thiele_cli.proofs.FlatMidpoints.{midpoint_before_cell, midpoint_most, radius_most}
 use Rattle.thiele_cli.proofs.LedgerSizes.{rate_within_scale}
 
 -- the midpoint is at most 2^65 in size on the way
@@ -54,7 +54,6 @@ stepped p g cells next degree (x ∷ []) (z ∷ y ∷ new) ranges is_scale few i
     encloses held = cc
 stepped p g cells next degree (x ∷ []) (z ∷ []) ranges is_scale few is_next is_degree one one_new encloses
     held =
-    let promise : StepEncloses (flat_system p g) (kappa40 p) x z = λ y rad n fits small limit near from.
-      encloses y rad n fits small limit near (rw is_degree from) in
-    rw (is_next, is_scale) (midpoint_before_cell p cells x z ranges few (rw is_scale at held)
-        (rw is_scale at promise))
+    let promise : Encloses Sup (flat_system p (scale p)) (kappa40 p) (x ∷ []) (z ∷ []) 24 =
+      rw (is_degree, is_scale) at encloses in
+    rw (is_next, is_scale) (midpoint_before_cell p cells x z ranges few (rw is_scale at held) promise)
