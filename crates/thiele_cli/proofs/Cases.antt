@@ -1,6 +1,6 @@
 -- What the words and the told file lead to is one thing only.
-use Rattle.std.proofs.Common.{◌≡◌, ℕ, List, Some, None, IsSome, inl}
-use Rattle.std.proofs.Common.{inr, sym, ◌∙◌, arith, refl}
+use Rattle.std.proofs.Common.{◌≡◌, ℕ, List, Some, None, IsSome}
+use Rattle.std.proofs.Common.{sym, ◌∙◌, arith, refl}
 use Rattle.product_reader.specs.FlatFile.{HasFlat, IsNotToml, IsNotFlat}
 use Rattle.product_reader.specs.FlatTree.{FlatProduct}
 use Rattle.product_reader.proofs.FlatFiles.{not_toml_has_no_product, not_toml_excludes_not_flat}

@@ -1,14 +1,12 @@
 -- The interest and the payment of a flat product's cell are small.
-use Rattle.std.specs.Prelude.{◌≡◌, ℕ, suc, pos, negsuc, ◌+◌, ◌*◌, ◌^◌, ◌≤◌, ◌<◌, ℤ, ◌*ℤ◌, ◌≤ℤ◌, nat_abs, List}
+use Rattle.std.specs.Prelude.{◌≡◌, ℕ, pos, negsuc, ◌*◌, ◌^◌, ◌≤◌, ℤ, ◌*ℤ◌, ◌≤ℤ◌, nat_abs}
 use Rattle.std.specs.Prelude.{[], ◌∷◌}
-use Rattle.std.proofs.Common.{refl, ap, sym, ◌∙◌, arith, pow_pos}
+use Rattle.std.proofs.Common.{refl, arith, pow_pos}
 use Rattle.std.proofs.lemmas.Int.{ints}
-use Rattle.std.proofs.Math.IntN.{pos-*ℤ-pos}
-use Rattle.frac_laws.specs.Fraction.{Fraction, whole, over, ◌+ℚ◌, ◌-ℚ◌, ◌*ℚ◌, ◌≤ℚ◌, opposite, size}
-use Rattle.frac_laws.proofs.FractionTerms.{ring, terms}
-use Rattle.frac_laws.proofs.Linear.{linear, claims, natural, ◌⊞◌, ◌⊠◌, ◌·◌}
-use Rattle.frac_laws.proofs.Quotients.{over_le_of_cross, over_mul, over_is, inverse}
-use Rattle.frac_laws.proofs.Sizes.{size_le_of_between, size_mul, size_of_natural}
+use Rattle.frac_laws.specs.Fraction.{whole, over, ◌*ℚ◌, ◌≤ℚ◌, size}
+use Rattle.frac_laws.proofs.Linear.{linear, claims}
+use Rattle.frac_laws.proofs.Quotients.{over_le_of_cross, over_mul, inverse}
+use Rattle.frac_laws.proofs.Sizes.{size_le_of_between}
 use Rattle.product_reader.specs.FlatTree.{FlatProduct}
 use Rattle.thiele_cli.specs.FlatRanges.{HasRanges}
 use Rattle.thiele_cli.specs.FlatRun.{cell_interest, cell_payment}
@@ -22,7 +20,7 @@ interest_is_small : (i d : ℤ) → pos 1 ≤ℤ d → pos 0 ≤ℤ i → (pos 4
     → over i (384 * nat_abs d) ≤ℚ over (pos 1) 1536
 interest_is_small i d some least most =
     over_le_of_cross i (pos 1) (384 * nat_abs d) 1536 (omega (arith, ints)) (omega arith)
-        (omega (arith, ints))
+    (omega (arith, ints))
 
 -- the force of interest over a cell is from 0 to 1/1536
 pub cell_interest_natural : (p : FlatProduct) → HasRanges p → whole (pos 0) ≤ℚ cell_interest p
@@ -49,9 +47,9 @@ payment_small p g most =
     let some : 1 ≤ 2 ^ g = omega (arith, pow_pos g) in
     let product = over_mul p.rate (pos 1) 384 (2 ^ g) (omega arith) some in
     rw product (size_le_of_between
-      (linear (over (p.rate *ℤ pos 1) (384 * 2 ^ g) ∷ []) (payment_is_above p.rate (2 ^ g) some most)
-          (hlevel claims) refl)
-      (payment_is_below p.rate (2 ^ g) some most))
+    (linear (over (p.rate *ℤ pos 1) (384 * 2 ^ g) ∷ []) (payment_is_above p.rate (2 ^ g) some most)
+    (hlevel claims) refl)
+    (payment_is_below p.rate (2 ^ g) some most))
 
 -- 2^g undoes the scaling
 pub scaling-inverse : (g : ℕ) → whole (pos (2 ^ g)) *ℚ scaling g ≡ whole (pos 1)

@@ -1,16 +1,14 @@
 -- From the answer of a shelf and the bytes of a file to the answer of a run.
-use Rattle.std.proofs.Common.{◌≡◌, ℕ, zero, suc, ◌≤◌, ℤ, pos, negsuc, List, length, codes, Option, Some}
-use Rattle.std.proofs.Common.{None, Ok, Vec, Global, ◌⊎◌, inl, inr, refl}
+use Rattle.std.proofs.Common.{ℕ, ◌≤◌, List, length, Option, Some}
+use Rattle.std.proofs.Common.{None, Ok, Vec, Global, inr}
 use Rattle.io_ports.specs.Files.{AnswersFrom}
-use Rattle.product_reader.specs.FlatFile.{HasFlat}
-use Rattle.product_reader.specs.FlatTree.{FlatProduct}
 use Rattle.thiele_cli.specs.declared.end.End.{End}
 use Rattle.thiele_cli.specs.declared.end.End.TheVariants.{Done, NotBuilt, FetchFault, TooLong, NotToml}
 use Rattle.thiele_cli.specs.declared.end.End.TheVariants.{WriteFault, Memory}
 use Rattle.thiele_cli.specs.declared.report.Report.{Report}
 use Rattle.thiele_cli.specs.Words.{AsksValue}
 use Rattle.thiele_cli.specs.Causes.{Files, AreTold}
-use Rattle.thiele_cli.specs.Outcome.{IsReportOf, Refuses, Settles, SettlesFile}
+use Rattle.thiele_cli.specs.Outcome.{Settles, SettlesFile}
 
 -- the bytes that a shelf gave are those that it tells
 pub told : (files : Files) (name : List ℕ) (most : ℕ) (bytes : Vec ℕ Global)

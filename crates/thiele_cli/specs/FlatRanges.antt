@@ -1,5 +1,5 @@
 -- The ranges of a flat product's numbers, by this product's own file format.
-use Rattle.std.specs.Prelude.{ℕ, ◌^◌, ◌≤◌, pos, ◌*ℤ◌, ◌≤ℤ◌, nat_abs}
+use Rattle.std.specs.Prelude.{◌^◌, ◌≤◌, pos, ◌*ℤ◌, ◌≤ℤ◌, nat_abs}
 use Rattle.product_reader.specs.FlatTree.{FlatProduct}
 
 -- the term is from 1 to 1200 months, the denominator from 1 to 10^12, the force of interest from 0 to a

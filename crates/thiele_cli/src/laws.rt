@@ -1,8 +1,9 @@
 // The laws of the flat run. Each function says laws and returns at once.
-ghost use Rattle.thiele_cli.specs.FlatSystem.{RunsAreTaylorValues, FlatSystemsAreTame, ValuesStayWithinTheirScale};
+ghost use Rattle.thiele_cli.specs.FlatSystem.{RunsAreTaylorValues, FlatSystemsAreTame};
+ghost use Rattle.thiele_cli.specs.FlatSystem.{ValuesStayWithinTheirScale};
 
-/// Each cell of a flat product's run is a Taylor step of its system of one number, which is tame with the growth that
-/// the ledgers count, and whose values stay within the scale.
+/// Each cell of a flat product's run is a Taylor step of its system of one number. That system is tame with the
+/// growth that the ledgers count, and the run's values stay within the scale.
 pub fn flat_runs()
     ensures steps { RunsAreTaylorValues }
     ensures tame { FlatSystemsAreTame }

@@ -1,5 +1,5 @@
 // The ledgers of a flat product, from the term to issue.
-ghost use Rattle.std.specs.Prelude.{◌≡◌, ◌*◌, ◌^◌, ◌≤◌, pos, ◌*ℤ◌, ◌≤ℤ◌, nat_abs};
+ghost use Rattle.std.specs.Prelude.{◌≡◌, ◌^◌, ◌≤◌, nat_abs};
 ghost use Rattle.product_reader.specs.Flat.{product_of};
 ghost use Rattle.thiele_cli.specs.FlatRanges.{HasRanges};
 ghost use Rattle.thiele_cli.specs.FlatLedger.{ledger_after, rate_pay1024};
@@ -8,8 +8,8 @@ ghost use Rattle.thiele_cli.specs.FlatLedger as formula;
 use ledger_bounds::grow;
 use product_reader::Flat;
 
-/// The growth of a cell in units of 2^-40: `ceil(9 * phi^2 / 2^44)` with `phi = ceil(2^40 * 6 i / 768)` for the yearly
-/// interest i, which is not negative.
+/// The growth of a cell in units of 2^-40: `ceil(9 * phi^2 / 2^44)` with `phi = ceil(2^40 * 6 i / 768)` for the
+/// yearly interest i, which is not negative.
 pub fn kappa40(flat: &Flat) -> u64
     requires ranges { HasRanges (product_of flat.now) }
     ensures value { result ≡ formula.kappa40 (product_of flat.now) }
@@ -20,7 +20,8 @@ pub fn kappa40(flat: &Flat) -> u64
     (9 * phi40 * phi40).div_ceil(1 << 44) as u64
 }
 
-/// The payment of a cell, `ceil(1024 * |rate| / 192)` in 1/1024 minor units, for a rate in minor units per year.
+/// The payment of a cell, `ceil(1024 * |rate| / 192)` in 1/1024 minor units, for a rate in minor units per
+/// year.
 pub fn pay1024(rate: i64) -> u128
     requires { nat_abs rate ≤ 10 ^ 12 }
     ensures value { result ≡ rate_pay1024 rate }

@@ -1,5 +1,5 @@
 // What is to be written for the words and the file that they name, before the sink is reached.
-ghost use Rattle.std.specs.Prelude.{◌≡◌, ◌≤◌, ◌^◌, ◌++◌, pos, ◌*ℤ◌, ◌≤ℤ◌, nat_abs, None, IfOk, OnErr, codes, decimal};
+ghost use Rattle.std.specs.Prelude.{◌≡◌, ◌++◌, None, IfOk, OnErr, codes, decimal};
 ghost use Rattle.thiele_cli.specs.FlatRanges.{HasRanges};
 ghost use Rattle.thiele_cli.specs.Words.{words_of};
 ghost use Rattle.thiele_cli.specs.Outcome.{IsReportOf, Refuses, Settles, SettlesFile, failed_name};

@@ -1,5 +1,5 @@
 // The sweep of a flat product from the term to issue, cell by cell.
-ghost use Rattle.std.specs.Prelude.{◌≡◌, ◌*◌, ◌+◌, ◌^◌, ◌≤◌, ◌<◌, pos, ◌*ℤ◌, ◌≤ℤ◌, nat_abs, unsigned_abs, IfOk, [], ◌∷◌, length, slice_index_or};
+ghost use Rattle.std.specs.Prelude.{◌≡◌, ◌^◌, ◌≤◌, pos, unsigned_abs, IfOk, [], ◌∷◌, length, slice_index_or};
 ghost use Rattle.product_reader.specs.Flat.{product_of};
 ghost use Rattle.linear_system.specs.StandsFor.{StandsFor};
 ghost use Rattle.thiele_cli.specs.FlatRanges.{HasRanges};
@@ -32,7 +32,8 @@ fn sweep<L: Ledger>(
     requires work { work.old ≡ 1 }
     requires count { steps.old ≤ 2 ^ 62 }
     ensures one { length mid.new ≡ 1 }
-    ensures held { IsMidpoint (product_of flat.now) (scale (product_of flat.now)) (cells_of (product_of flat.now)) (slice_index_or mid.new 0 (pos 0)) (radius (product_of flat.now)) }
+    ensures held { IsMidpoint (product_of flat.now) (scale (product_of flat.now))
+        (cells_of (product_of flat.now)) (slice_index_or mid.new 0 (pos 0)) (radius (product_of flat.now)) }
     ensures size { unsigned_abs (slice_index_or mid.new 0 (pos 0)) ≤ 2 ^ 65 }
 {
     for _cell in 0..CELLS_OF_MONTH * flat.months {
@@ -51,7 +52,9 @@ pub fn midpoint<L: Ledger>(
     requires scale { scale ≡ formula.scale (product_of flat.now) }
     requires most_scale { scale ≤ 56 }
     requires count { steps.old ≤ 2 ^ 62 }
-    ensures held { IfOk result (λ mid. IsMidpoint (product_of flat.now) scale (cells_of (product_of flat.now)) mid (radius (product_of flat.now))) }
+    ensures held { IfOk result (λ mid.
+        IsMidpoint (product_of flat.now) scale (cells_of (product_of flat.now)) mid
+        (radius (product_of flat.now))) }
     ensures size { IfOk result (λ mid. unsigned_abs mid ≤ 2 ^ 65) }
 {
     let system = cell_system(alloc, flat, scale)?;

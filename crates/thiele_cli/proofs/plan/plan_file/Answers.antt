@@ -1,5 +1,4 @@
 use Rattle.product_reader.specs.Flat.{product_of}
-use Rattle.thiele_cli.specs.FlatRanges.{HasRanges}
 use Rattle.thiele_cli.proofs.FlatFiles.{ranges_of_file}
 use Rattle.thiele_cli.proofs.plan.plan_file.Goals as goal
 
