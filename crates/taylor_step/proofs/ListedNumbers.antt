@@ -1,5 +1,6 @@
 -- A system that is filled with listed numbers, the last one first.
-use Rattle.std.proofs.Common.{◌≡◌, ℕ, suc, zero, ◌+◌, ◌-◌, ◌<◌, ◌≤◌, ◌^◌, length, get_or, drop, List, [], ◌∷◌, refl, ap, sym, ◌∙◌, arith, Bool, true, false}
+use Rattle.std.proofs.Common.{◌≡◌, ℕ, suc, zero, ◌+◌, ◌-◌, ◌<◌, ◌≤◌, ◌^◌, length, get_or, drop, List, [], ◌∷◌}
+use Rattle.std.proofs.Common.{refl, ap, sym, ◌∙◌, arith, Bool, true, false}
 use Rattle.std.proofs.Math.Seq.{drop-cons}
 use Rattle.std.specs.Prelude.{ℤ, pos, unsigned_abs, cond, nat_eq, nat_lt, nat_le, IsTrue, ◌&&◌, ◌||◌}
 use Rattle.std.specs.List.{list_all}
@@ -8,11 +9,13 @@ use Rattle.linear_system.specs.StoredSystem.{StoredSystem, dim_of, stored_number
 use Rattle.taylor_step.specs.ListedNumbers.{Entry, listed, can_hold}
 
 -- a system made for some links has the listed numbers, and else 0
-pub record IsFilledWith (dim degree : ℕ) (links : List (ℕ × ℕ)) (entries : List Entry) (s : StoredSystem) : Type 0 where
+pub record IsFilledWith (dim degree : ℕ) (links : List (ℕ × ℕ)) (entries : List Entry)
+    (s : StoredSystem) : Type 0 where
   pub made : IsMadeFor dim degree links s
   pub numbers : (row col m : ℕ) → stored_number s row col m ≡ listed entries row col m
 
-pub nothing_filled : (dim degree : ℕ) (links : List (ℕ × ℕ)) (entries : List Entry) (s : StoredSystem) → IsMadeFor dim degree links s
+pub nothing_filled : (dim degree : ℕ) (links : List (ℕ × ℕ)) (entries : List Entry) (s : StoredSystem)
+    → IsMadeFor dim degree links s
     → HasNoNumbers s → entries ≡ [] → IsFilledWith dim degree links entries s
 nothing_filled dim degree links entries s made none e = rw e (record { made = made; numbers = none })
 
@@ -22,9 +25,12 @@ none_left [] (suc n) h = refl
 none_left (e ∷ entries) zero h = absurd (omega arith)
 none_left (e ∷ entries) (suc n) h = none_left entries n (omega arith)
 
-pub one_filled : (dim degree : ℕ) (links : List (ℕ × ℕ)) (entries : List Entry) (k : ℕ) (d : Entry) (old new : StoredSystem)
-    → k < length entries → IsFilledWith dim degree links (drop (length entries - k) entries) old → IsMadeFor dim degree links new
-    → SetsOnly old new (get_or entries (length entries - 1 - k) d).0 (get_or entries (length entries - 1 - k) d).1
+pub one_filled : (dim degree : ℕ) (links : List (ℕ × ℕ)) (entries : List Entry) (k : ℕ) (d : Entry)
+    (old new : StoredSystem)
+    → k < length entries → IsFilledWith dim degree links (drop (length entries - k) entries) old
+    → IsMadeFor dim degree links new
+    → SetsOnly old new (get_or entries (length entries - 1 - k) d).0
+    (get_or entries (length entries - 1 - k) d).1
     (get_or entries (length entries - 1 - k) d).2 (get_or entries (length entries - 1 - k) d).3
     → IsFilledWith dim degree links (drop (length entries - (k + 1)) entries) new
 one_filled dim degree links entries k d old new b h made set = record {
@@ -36,13 +42,16 @@ one_filled dim degree links entries k d old new b h made set = record {
     e : Entry
     e = get_or entries (length entries - 1 - k) d
 
-    split : drop (length entries - (k + 1)) entries ≡ get_or entries (length entries - 1 - k) d ∷ drop (length entries - k) entries
+    split : drop (length entries - (k + 1)) entries ≡ get_or entries (length entries - 1 - k) d ∷ drop
+        (length entries - k) entries
     split =
         let at : length entries - (k + 1) ≡ length entries - 1 - k = omega arith in
         let next : suc (length entries - 1 - k) ≡ length entries - k = omega arith in
-        rw at (drop-cons entries (length entries - 1 - k) d (omega arith) ∙ ap (λ n. get_or entries (length entries - 1 - k) d ∷ drop n entries) next)
+        rw at (drop-cons entries (length entries - 1 - k) d (omega arith) ∙ ap
+        (λ n. get_or entries (length entries - 1 - k) d ∷ drop n entries) next)
 
-pub one_held : (test : Entry → Bool) (entries : List Entry) (i : ℕ) (d : Entry) → IsTrue (list_all test entries) → i < length entries
+pub one_held : (test : Entry → Bool) (entries : List Entry) (i : ℕ) (d : Entry)
+    → IsTrue (list_all test entries) → i < length entries
     → IsTrue (test (get_or entries i d))
 one_held test [] i d h b = absurd (omega arith)
 one_held test (e ∷ entries) zero d h b = (both (test e) _ h).0

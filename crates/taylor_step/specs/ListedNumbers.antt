@@ -1,5 +1,6 @@
 -- Numbers of a stored system that are listed by row, column and power.
-use Rattle.std.specs.Prelude.{ℕ, ◌^◌, ◌&&◌, ◌||◌, ℤ, pos, unsigned_abs, List, [], ◌∷◌, cond, nat_eq, nat_lt, nat_le, Bool}
+use Rattle.std.specs.Prelude.{ℕ, ◌^◌, ◌&&◌, ◌||◌, ℤ, pos, unsigned_abs, List, [], ◌∷◌, cond, nat_eq, nat_lt}
+use Rattle.std.specs.Prelude.{nat_le, Bool}
 use Rattle.linear_system.specs.Setting.{is_same_place, may_hold}
 
 -- a row, a column, which is the dimension for a free number, a power, and the number in units of 2^-64

@@ -39,11 +39,18 @@ fn filled(
     requires degree { degree ≤ 11 }
     requires held { IsTrue (list_all (can_hold dim degree links.now) entries.now) }
     ensures dim { IfOk result (λ s. dim_of s ≡ dim) }
-    ensures numbers { IfOk result (λ s. (row col m : ℕ) → stored_number s row col m ≡ listed entries.now row col m) }
+    ensures numbers { IfOk result (λ s. (row col m : ℕ)
+        → stored_number s row col m ≡ listed entries.now row col m) }
 {
     let mut system = CellSystem::new(alloc, dim, degree, links)?;
     for k in 0..entries.len() {
-        put(&mut system, dim, degree, links, &entries[entries.len() - 1 - k]);
+        put(
+            &mut system,
+            dim,
+            degree,
+            links,
+            &entries[entries.len() - 1 - k],
+        );
     }
     Ok(system)
 }
