@@ -1,12 +1,12 @@
 -- What the words and the told file lead to is one thing only.
-use Rattle.std.proofs.Common.{◌≡◌, ℕ, pos, List, Some, None, IsSome, inl}
+use Rattle.std.proofs.Common.{◌≡◌, ℕ, List, Some, None, IsSome, inl}
 use Rattle.std.proofs.Common.{inr, sym, ◌∙◌, arith, refl}
-use Rattle.product_reader.specs.FlatFile.{HasFlat, IsNotToml}
+use Rattle.product_reader.specs.FlatFile.{HasFlat, IsNotToml, IsNotFlat}
 use Rattle.product_reader.specs.FlatTree.{FlatProduct}
 use Rattle.product_reader.proofs.FlatFiles.{not_toml_has_no_product, not_toml_excludes_not_flat}
-use Rattle.product_reader.proofs.FlatFiles.{not_flat_has_no_product, flat_file_values_are_unique}
+use Rattle.product_reader.proofs.FlatFiles.{not_flat_has_no_product}
 use Rattle.thiele_cli.specs.Words.{AsksValue, AskForValue}
-use Rattle.thiele_cli.specs.Causes.{Files, NamesFile, NameLongFile, IsUnbuiltFile}
+use Rattle.thiele_cli.specs.Causes.{Files, NamesFile, NameLongFile}
 
 -- the files that words can name
 pub data Case : Type 0 where
@@ -16,41 +16,30 @@ pub data Case : Type 0 where
   unbuilt : Case
   valued : Case
 
--- the bytes have a flat product without interest
+-- the bytes have a flat product
 pub record IsValued (bytes : List ℕ) : Type 0 where
   pub product : FlatProduct
   pub flat : HasFlat bytes product
-  pub no_interest : product.interest ≡ pos 0
 
 -- what each case says of the bytes
 abbrev pub IsFileCase : List ℕ → Case → Type 0
 IsFileCase bytes no_words = ⊥
 IsFileCase bytes too_long = ⊥
 IsFileCase bytes no_toml = IsNotToml bytes
-IsFileCase bytes unbuilt = IsUnbuiltFile bytes
+IsFileCase bytes unbuilt = IsNotFlat bytes
 IsFileCase bytes valued = IsValued bytes
-
-valued_is_flat : (bytes : List ℕ) → IsValued bytes → IsUnbuiltFile bytes → ⊥
-valued_is_flat bytes v (inl not_flat) = not_flat_has_no_product bytes v.product not_flat v.flat
-valued_is_flat bytes v (inr other) =
-    let same = flat_file_values_are_unique bytes v.product other.0 v.flat other.1 in
-    other.2 (rw (← same) v.no_interest)
-
-not_toml_is_built : (bytes : List ℕ) → IsNotToml bytes → IsUnbuiltFile bytes → ⊥
-not_toml_is_built bytes none (inl not_flat) = not_toml_excludes_not_flat bytes none not_flat
-not_toml_is_built bytes none (inr other) = not_toml_has_no_product bytes other.0 none other.1
 
 -- bytes are of one case
 one_file_case : (bytes : List ℕ) (a b : Case) → IsFileCase bytes a → IsFileCase bytes b → a ≡ b
 one_file_case bytes no_toml no_toml x y = refl
 one_file_case bytes unbuilt unbuilt x y = refl
 one_file_case bytes valued valued x y = refl
-one_file_case bytes no_toml unbuilt x y = absurd (not_toml_is_built bytes x y)
-one_file_case bytes unbuilt no_toml x y = absurd (not_toml_is_built bytes y x)
+one_file_case bytes no_toml unbuilt x y = absurd (not_toml_excludes_not_flat bytes x y)
+one_file_case bytes unbuilt no_toml x y = absurd (not_toml_excludes_not_flat bytes y x)
 one_file_case bytes no_toml valued x y = absurd (not_toml_has_no_product bytes y.product x y.flat)
 one_file_case bytes valued no_toml x y = absurd (not_toml_has_no_product bytes x.product y x.flat)
-one_file_case bytes unbuilt valued x y = absurd (valued_is_flat bytes y x)
-one_file_case bytes valued unbuilt x y = absurd (valued_is_flat bytes x y)
+one_file_case bytes unbuilt valued x y = absurd (not_flat_has_no_product bytes y.product x y.flat)
+one_file_case bytes valued unbuilt x y = absurd (not_flat_has_no_product bytes x.product y x.flat)
 one_file_case bytes no_words b x y = absurd x
 one_file_case bytes too_long b x y = absurd x
 one_file_case bytes a no_words x y = absurd y

@@ -31,7 +31,7 @@ pub ends_valued : (files : Files) (words : List (List ℕ)) (p : FlatProduct) �
     → EndsBy files words Done
 ends_valued files words p named = record {
   own = valued;
-  holds = by_file named.bytes named.file (record { product = p; flat = named.flat; no_interest = named.no_interest });
+  holds = by_file named.bytes named.file (record { product = p; flat = named.flat });
   end = refl;
 }
 

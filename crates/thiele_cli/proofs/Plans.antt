@@ -18,24 +18,6 @@ pub told : (files : Files) (name : List ℕ) (most : ℕ) (bytes : Vec ℕ Globa
 told None name most bytes answer = tt
 told (Some files) name most bytes answer = answer
 
--- a whole number is 0 or it is not
-pub is_nought : (z : ℤ) → (z ≡ pos 0) ⊎ ¬ (z ≡ pos 0)
-is_nought (pos zero) = inl refl
-is_nought (pos (suc n)) = inr (λ same. cc)
-is_nought (negsuc n) = inr (λ same. cc)
-
--- a flat product without interest is valued, and one with interest is refused
-pub settles_flat : (bytes : List ℕ) (p : FlatProduct) → HasFlat bytes p
-    → (end : End) (report : Option Report) (text : List ℕ)
-    → (p.interest ≡ pos 0 → (end ≡ Done) × IsReportOf p report text)
-    → (¬ (p.interest ≡ pos 0) → (end ≡ NotBuilt) × Refuses report text (codes "refused unbuilt\n"))
-    → SettlesFile bytes end report text
-settles_flat bytes p flat end report text valued unbuilt = by_interest (is_nought p.interest)
-  where
-    by_interest : (p.interest ≡ pos 0) ⊎ ¬ (p.interest ≡ pos 0) → SettlesFile bytes end report text
-    by_interest (inl none) = let settled = valued none in rw settled.0 (p, flat, none, settled.1)
-    by_interest (inr some) = let settled = unbuilt some in rw settled.0 (inr (p, flat, some), settled.1)
-
 -- what a file leads to is what the words that name it lead to
 pub settles_file : (files : Files) (words : List (List ℕ)) (name bytes : List ℕ) → AsksValue words name
     → AreTold files name bytes → length bytes ≤ 1048576
@@ -47,9 +29,8 @@ settles_file files words name bytes asked here short Done report text a = (
     bytes = bytes;
     file = record { name = name; asked = asked; told = here; short = short };
     flat = a.1;
-    no_interest = a.2;
   },
-  a.3,
+  a.2,
 )
 settles_file files words name bytes asked here short NotBuilt report text a =
     (inr (bytes, record { name = name; asked = asked; told = here; short = short }, a.0), a.1)

@@ -1,5 +1,5 @@
 -- Why a run ends as it does, for its words and the files that its shelf tells.
-use Rattle.std.specs.Prelude.{◌≡◌, ℕ, ◌≤◌, pos, List, ⊤, Option, Some, None, IsSome, ◌⊎◌, length}
+use Rattle.std.specs.Prelude.{◌≡◌, ℕ, ◌≤◌, List, ⊤, Option, Some, None, IsSome, ◌⊎◌, length}
 use Rattle.io_ports.specs.Files.{file_of, IsLonger}
 use Rattle.product_reader.specs.FlatFile.{HasFlat, IsNotToml, IsNotFlat}
 use Rattle.product_reader.specs.FlatTree.{FlatProduct}
@@ -36,20 +36,15 @@ NameLongFile files words = (name : List ℕ) × AsksValue words name × IsLong f
 abbrev pub NameNoToml : Files → List (List ℕ) → Type 0
 NameNoToml files words = (bytes : List ℕ) × NamesFile files words bytes × IsNotToml bytes
 
--- the words name a file with this flat product, which has no interest
+-- the words name a file with this flat product
 pub record NameValued (files : Files) (words : List (List ℕ)) (p : FlatProduct) : Type 0 where
   pub bytes : List ℕ
   pub file : NamesFile files words bytes
   pub flat : HasFlat bytes p
-  pub no_interest : p.interest ≡ pos 0
 
--- the tree of the bytes is not flat, or its interest is not 0
-abbrev pub IsUnbuiltFile : List ℕ → Type 0
-IsUnbuiltFile bytes = IsNotFlat bytes ⊎ ((p : FlatProduct) × HasFlat bytes p × ¬ (p.interest ≡ pos 0))
-
--- the words ask for nothing that is built, or name a file that is not built
+-- the words ask for nothing that is built, or name a file whose tree is not flat
 abbrev pub NameUnbuilt : Files → List (List ℕ) → Type 0
-NameUnbuilt files words = ¬ AskForValue words ⊎ ((bytes : List ℕ) × NamesFile files words bytes × IsUnbuiltFile bytes)
+NameUnbuilt files words = ¬ AskForValue words ⊎ ((bytes : List ℕ) × NamesFile files words bytes × IsNotFlat bytes)
 
 -- the end comes only by its cause; and where the files are told and no fetch failed, the cause leads to no other
 -- end than want of memory and a fault of the sink

@@ -1,6 +1,8 @@
 pub mod Causes
 pub mod FlatLedger
+pub mod FlatRanges
 pub mod FlatRun
+pub mod FlatSystem
 pub mod Outcome
 pub mod Reports
 pub mod Text

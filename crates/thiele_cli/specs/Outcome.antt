@@ -1,16 +1,16 @@
 -- What a run writes, end by end.
-use Rattle.std.specs.Prelude.{◌≡◌, ℕ, ◌<◌, pos, List, [], ◌∷◌, ◌++◌, codes, decimal, length, Option, None}
+use Rattle.std.specs.Prelude.{◌≡◌, ℕ, ◌<◌, List, [], ◌∷◌, ◌++◌, codes, decimal, length, Option, None}
 use Rattle.std.specs.Prelude.{IsSomeAnd}
 use Rattle.std.specs.Io.KnownBytes.{Appends}
 use Rattle.io_ports.specs.Growth.{AppendsPrefix}
-use Rattle.product_reader.specs.FlatFile.{HasFlat, IsNotToml}
+use Rattle.product_reader.specs.FlatFile.{HasFlat, IsNotToml, IsNotFlat}
 use Rattle.product_reader.specs.FlatTree.{FlatProduct}
 use Rattle.thiele_cli.specs.declared.end.End.{End}
 use Rattle.thiele_cli.specs.declared.end.End.TheVariants.{Done, NotBuilt, FetchFault, TooLong, NotToml}
 use Rattle.thiele_cli.specs.declared.end.End.TheVariants.{WriteFault, Memory}
 use Rattle.thiele_cli.specs.declared.report.Report.{Report}
 use Rattle.thiele_cli.specs.Words.{AskForValue}
-use Rattle.thiele_cli.specs.Causes.{Files, NameValued, NameUnbuilt, NameLongFile, NameNoToml, IsUnbuiltFile}
+use Rattle.thiele_cli.specs.Causes.{Files, NameValued, NameUnbuilt, NameLongFile, NameNoToml}
 use Rattle.thiele_cli.specs.Reports.{IsValueReport}
 use Rattle.thiele_cli.specs.Text.{report_text}
 
@@ -51,8 +51,8 @@ Settles files words Memory report text = Refuses report text []
 -- the same for the bytes of the file that the words name
 abbrev pub SettlesFile : List ℕ → End → Option Report → List ℕ → Type 0
 SettlesFile bytes Done report text =
-    (p : FlatProduct) × HasFlat bytes p × (p.interest ≡ pos 0) × IsReportOf p report text
-SettlesFile bytes NotBuilt report text = IsUnbuiltFile bytes × Refuses report text (codes "refused unbuilt\n")
+    (p : FlatProduct) × HasFlat bytes p × IsReportOf p report text
+SettlesFile bytes NotBuilt report text = IsNotFlat bytes × Refuses report text (codes "refused unbuilt\n")
 SettlesFile bytes NotToml report text = IsNotToml bytes × Refuses report text (codes "refused toml\n")
 SettlesFile bytes (TooLong seen) report text = ⊥
 SettlesFile bytes FetchFault report text = ⊥

@@ -21,10 +21,6 @@ pub record AreEnds (mid : ℤ) (radius g : ℕ) (lo hi : ℤ) : Type 0 where
   pub low : lo ≡ floor_of ((mid -ℤ pos radius) *ℤ pos (2 ^ g * 10 ^ 6)) (pos (2 ^ 64))
   pub high : hi ≡ ceiling_of ((mid +ℤ pos radius) *ℤ pos (2 ^ g * 10 ^ 6)) (pos (2 ^ 64))
 
--- the value at issue without interest, in units of 2^-64 at the scale 2^g: each cell's payment is rounded down
-abbrev pub rounded_value : ℕ → ℤ → ℕ → ℤ
-rounded_value cells rate g = pos cells *ℤ floor_of (rate *ℤ pos (2 ^ 64)) (pos (384 * 2 ^ g))
-
 -- the row is of month 0 and the one state, holds the value from the degree on, and is no wider than the tolerance
 pub record IsValueRow (p : FlatProduct) (degree : ℕ) (row : Row) : Type 0 where
   pub month : row.month ≡ 0

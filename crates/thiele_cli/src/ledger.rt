@@ -1,12 +1,24 @@
-// The ledgers of a contract without interest: nothing grows, and each cell adds the same.
-ghost use Rattle.std.specs.Prelude.{◌≡◌, ◌*◌, ◌^◌, ◌≤◌, nat_abs};
-ghost use Rattle.std.specs.Int.{div_ceil};
+// The ledgers of a flat product, from the term to issue.
+ghost use Rattle.std.specs.Prelude.{◌≡◌, ◌*◌, ◌^◌, ◌≤◌, pos, ◌*ℤ◌, ◌≤ℤ◌, nat_abs};
+ghost use Rattle.product_reader.specs.Flat.{product_of};
+ghost use Rattle.thiele_cli.specs.FlatRanges.{HasRanges};
 ghost use Rattle.thiele_cli.specs.FlatLedger.{ledger_after, rate_pay1024};
+ghost use Rattle.thiele_cli.specs.FlatLedger as formula;
 
 use ledger_bounds::grow;
+use product_reader::Flat;
 
-/// The growth of a cell without interest, in units of 2^-40.
-const NO_GROWTH: u64 = 0;
+/// The growth of a cell in units of 2^-40: `ceil(9 * phi^2 / 2^44)` with `phi = ceil(2^40 * 6 i / 768)` for the yearly
+/// interest i, which is not negative.
+pub fn kappa40(flat: &Flat) -> u64
+    requires ranges { HasRanges (product_of flat.now) }
+    ensures value { result ≡ formula.kappa40 (product_of flat.now) }
+    ensures size { result ≤ 2 ^ 22 }
+{
+    let top = 6 * u128::from(flat.interest.unsigned_abs());
+    let phi40 = ((1 << 40) * top).div_ceil(768 * u128::from(flat.den.unsigned_abs()));
+    (9 * phi40 * phi40).div_ceil(1 << 44) as u64
+}
 
 /// The payment of a cell, `ceil(1024 * |rate| / 192)` in 1/1024 minor units, for a rate in minor units per year.
 pub fn pay1024(rate: i64) -> u128
@@ -17,16 +29,18 @@ pub fn pay1024(rate: i64) -> u128
     (1024 * u128::from(rate.unsigned_abs())).div_ceil(192)
 }
 
-/// A ledger that starts with 0 at the term and adds the same in each cell, after that many cells.
-pub fn ledger(cells: u32, add: u128) -> u128
-    requires cells { cells ≤ 38400 }
+/// A ledger that starts with 0 at the term, and grows and adds the same in each cell, after that many cells.
+pub fn ledger(kappa40: u64, add: u128, cells: u32) -> u128
+    requires growth { kappa40 ≤ 2 ^ 22 }
     requires add { add ≤ 2 ^ 43 }
-    ensures value { result ≡ ledger_after 0 add cells }
-    ensures sum { result ≡ cells * add }
+    requires cells { cells ≤ 38400 }
+    ensures value { result ≡ ledger_after kappa40 add cells }
+    ensures size { result ≤ 2 ^ 60 }
+    ensures radius { add ≤ 1024 → result ≤ 2 ^ 27 }
 {
     let mut ledger = 0;
     for _cell in 0..cells {
-        ledger = grow(ledger, NO_GROWTH, add);
+        ledger = grow(ledger, kappa40, add);
     }
     ledger
 }

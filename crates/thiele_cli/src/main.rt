@@ -1,9 +1,11 @@
 //! Values life insurance contracts that are Markov chains, each number as an interval that is proved to hold it.
 #![tactic(auto)]
 
+mod cell;
 mod decimal;
 mod enclosure;
 mod end;
+mod laws;
 mod ledger;
 mod pieces;
 mod plan;

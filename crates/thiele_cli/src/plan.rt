@@ -1,5 +1,6 @@
 // What is to be written for the words and the file that they name, before the sink is reached.
-ghost use Rattle.std.specs.Prelude.{◌≡◌, ◌≤◌, ◌^◌, ◌++◌, pos, nat_abs, None, IfOk, OnErr, codes, decimal};
+ghost use Rattle.std.specs.Prelude.{◌≡◌, ◌≤◌, ◌^◌, ◌++◌, pos, ◌*ℤ◌, ◌≤ℤ◌, nat_abs, None, IfOk, OnErr, codes, decimal};
+ghost use Rattle.thiele_cli.specs.FlatRanges.{HasRanges};
 ghost use Rattle.thiele_cli.specs.Words.{words_of};
 ghost use Rattle.thiele_cli.specs.Outcome.{IsReportOf, Refuses, Settles, SettlesFile, failed_name};
 ghost use Rattle.product_reader.specs.Flat.{product_of};
@@ -54,12 +55,9 @@ fn plan_too_long(alloc: Global, seen: u64) -> Result<Plan, AllocError>
     })
 }
 
-/// The report of a flat product without interest, and its text.
-fn plan_value(alloc: Global, flat: &Flat) -> Result<Plan, AllocError>
-    requires no_interest { flat.now.interest ≡ pos 0 }
-    requires some_months { 1 ≤ flat.now.months }
-    requires months { flat.now.months ≤ 1200 }
-    requires rate { nat_abs flat.now.rate ≤ 10 ^ 12 }
+/// The report of a flat product, and its text.
+fn plan_flat(alloc: Global, flat: &Flat) -> Result<Plan, AllocError>
+    requires ranges { HasRanges (product_of flat.now) }
     ensures end { IfOk result (λ plan. plan.end ≡ End.Done) }
     ensures report { IfOk result (λ plan. IsReportOf (product_of flat.now) plan.report plan.text.items) }
 {
@@ -70,23 +68,6 @@ fn plan_value(alloc: Global, flat: &Flat) -> Result<Plan, AllocError>
         report: Some(report),
         text,
     })
-}
-
-/// What a flat product leads to: only one without interest is valued yet.
-fn plan_flat(alloc: Global, flat: &Flat) -> Result<Plan, AllocError>
-    requires some_months { 1 ≤ flat.now.months }
-    requires months { flat.now.months ≤ 1200 }
-    requires rate { nat_abs flat.now.rate ≤ 10 ^ 12 }
-    ensures valued { flat.now.interest ≡ pos 0 →
-        IfOk result (λ plan. (plan.end ≡ End.Done) × IsReportOf (product_of flat.now) plan.report plan.text.items) }
-    ensures unbuilt { ¬ (flat.now.interest ≡ pos 0) →
-        IfOk result (λ plan. (plan.end ≡ End.NotBuilt)
-        × Refuses plan.report plan.text.items (codes "refused unbuilt\n")) }
-{
-    if flat.interest == 0 {
-        return plan_value(alloc, flat);
-    }
-    refusal(alloc, End::NotBuilt, b"refused unbuilt\n")
 }
 
 /// What the bytes of the file lead to.

@@ -1,44 +1,62 @@
-// The sweep of a contract without interest from the term to issue, cell by cell.
-ghost use Rattle.std.specs.Prelude.{◌≡◌, ◌^◌, ◌≤◌, ◌*◌, pos, ◌*ℤ◌, ◌+ℤ◌, unsigned_abs};
-ghost use Rattle.frac_laws.specs.Rounding.{floor_of};
+// The sweep of a flat product from the term to issue, cell by cell.
+ghost use Rattle.std.specs.Prelude.{◌≡◌, ◌*◌, ◌+◌, ◌^◌, ◌≤◌, ◌<◌, pos, ◌*ℤ◌, ◌≤ℤ◌, nat_abs, unsigned_abs, IfOk, [], ◌∷◌, length, slice_index_or};
+ghost use Rattle.product_reader.specs.Flat.{product_of};
+ghost use Rattle.linear_system.specs.StandsFor.{StandsFor};
+ghost use Rattle.thiele_cli.specs.FlatRanges.{HasRanges};
+ghost use Rattle.thiele_cli.specs.FlatLedger.{radius, scale};
+ghost use Rattle.thiele_cli.specs.FlatLedger as formula;
+ghost use Rattle.thiele_cli.specs.FlatRun.{cells_of};
+ghost use Rattle.thiele_cli.specs.FlatSystem.{flat_system, IsMidpoint};
 
-use fixed_num::{Fix, from_fraction};
+use crate::cell::cell_system;
+use linear_system::CellSystem;
+use product_reader::Flat;
+use std::alloc::{AllocError, Global};
+use std::sync::ledger::Ledger;
+use taylor_step::{Steps, Work, step};
 
-/// The cells of a year.
-const CELLS_OF_YEAR: i128 = 384;
+/// The cells of a month.
+pub const CELLS_OF_MONTH: u32 = 32;
 
-/// The payment of a cell at the scale, for a rate in minor units per year.
-fn scaled_payment(rate: i64, scale: u32) -> Fix
-    requires scale { scale ≤ 56 }
-    requires within { unsigned_abs rate ≤ 384 * 2 ^ scale }
-    ensures value { result.0 ≡ floor_of (rate *ℤ pos (2 ^ 64)) (pos (384 * 2 ^ scale)) }
-    ensures size { unsigned_abs result.0 ≤ 2 ^ 64 }
+/// Goes from the term to issue, with a Taylor step for each cell.
+fn sweep<L: Ledger>(
+    flat: &Flat,
+    system: &CellSystem,
+    mid: &mut [i128],
+    work: &mut Work,
+    steps: &mut Steps<L>,
+)
+    requires ranges { HasRanges (product_of flat.now) }
+    requires system { StandsFor system.now (flat_system (product_of flat.now) (scale (product_of flat.now))) }
+    requires start { mid.old ≡ pos 0 ∷ [] }
+    requires work { work.old ≡ 1 }
+    requires count { steps.old ≤ 2 ^ 62 }
+    ensures one { length mid.new ≡ 1 }
+    ensures held { IsMidpoint (product_of flat.now) (scale (product_of flat.now)) (cells_of (product_of flat.now)) (slice_index_or mid.new 0 (pos 0)) (radius (product_of flat.now)) }
+    ensures size { unsigned_abs (slice_index_or mid.new 0 (pos 0)) ≤ 2 ^ 65 }
 {
-    from_fraction(i128::from(rate), CELLS_OF_YEAR * 2i128.pow(scale))
-}
-
-/// The value before a cell from the value behind it, in units of 2^-64 at the scale: without interest the payment is
-/// added.
-fn step(mid: i128, payment: Fix) -> i128
-    requires mid { unsigned_abs mid ≤ 2 ^ 96 }
-    requires payment { unsigned_abs payment.0 ≤ 2 ^ 64 }
-    ensures { result ≡ mid +ℤ payment.0 }
-{
-    mid + payment.0
-}
-
-/// The value at issue in units of 2^-64 at the scale, each cell's payment rounded down.
-pub fn midpoint(cells: u32, rate: i64, scale: u32) -> i128
-    requires cells { cells ≤ 38400 }
-    requires scale { scale ≤ 56 }
-    requires within { unsigned_abs rate ≤ 384 * 2 ^ scale }
-    ensures value { result ≡ pos cells *ℤ floor_of (rate *ℤ pos (2 ^ 64)) (pos (384 * 2 ^ scale)) }
-    ensures size { unsigned_abs result ≤ 38400 * 2 ^ 64 }
-{
-    let payment = scaled_payment(rate, scale);
-    let mut mid = 0;
-    for _cell in 0..cells {
-        mid = step(mid, payment);
+    for _cell in 0..CELLS_OF_MONTH * flat.months {
+        step(system, mid, work, steps);
     }
-    mid
+}
+
+/// The value at issue, in units of 2^-64 at the product's scale: swept from the term.
+pub fn midpoint<L: Ledger>(
+    alloc: Global,
+    flat: &Flat,
+    scale: u32,
+    steps: &mut Steps<L>,
+) -> Result<i128, AllocError>
+    requires ranges { HasRanges (product_of flat.now) }
+    requires scale { scale ≡ formula.scale (product_of flat.now) }
+    requires most_scale { scale ≤ 56 }
+    requires count { steps.old ≤ 2 ^ 62 }
+    ensures held { IfOk result (λ mid. IsMidpoint (product_of flat.now) scale (cells_of (product_of flat.now)) mid (radius (product_of flat.now))) }
+    ensures size { IfOk result (λ mid. unsigned_abs mid ≤ 2 ^ 65) }
+{
+    let system = cell_system(alloc, flat, scale)?;
+    let mut work = Work::new(alloc, 1)?;
+    let mut mid = [0];
+    sweep(flat, &system, &mut mid, &mut work, steps);
+    Ok(mid[0])
 }

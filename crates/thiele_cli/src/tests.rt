@@ -36,7 +36,7 @@ state = "on"
 steps = [{ from = 0, amount = -1000000000000 }]
 "#;
 
-/// The same with a force of interest of a twentieth.
+/// The same with a force of interest of a twentieth and 12000 minor units per year.
 const WITH_INTEREST: &[u8] = br#"format = 1
 name = "flat"
 months = 12
@@ -47,7 +47,7 @@ interest = [{ from = 0, c = [1] }]
 
 [[sojourn]]
 state = "on"
-steps = [{ from = 0, amount = 384 }]
+steps = [{ from = 0, amount = 12000 }]
 "#;
 
 /// A shelf with the files of these tests.
@@ -90,7 +90,6 @@ fn each_end_writes_its_text(rt: HostRuntime) -> Result<(), Fail> {
             0,
             "report value flat\ndegree 24 scale 10\n0 on value 383.999999 384.000001 0.000003\nend 1\n",
         ),
-        ("interest", End::NotBuilt, 10, "refused unbuilt\n"),
         ("empty", End::NotBuilt, 10, "refused unbuilt\n"),
         ("cut", End::NotToml, 5, "refused toml\n"),
         ("missing", End::FetchFault, 3, ""),
@@ -116,22 +115,35 @@ fn each_end_writes_its_text(rt: HostRuntime) -> Result<(), Fail> {
 }
 
 #[test]
-fn largest_rate_is_enclosed_within_its_tolerance(rt: HostRuntime) -> Result<(), Fail> {
+fn values_are_enclosed_within_their_tolerances(rt: HostRuntime) -> Result<(), Fail> {
     let alloc = rt.alloc();
-    let mut sink = sink(alloc, &[])?;
-    let finish = run(
-        alloc,
-        &words(alloc, &["value", "large"])?,
-        &mut shelf(alloc, &[])?,
-        &mut sink,
-    );
-    let report = finish.report.ok_or("no report")?;
-    assert_eq!(rt; report.rows.len(), 1);
-    assert_eq!(rt; report.scale, 48);
-    // 100 years of 10^12 minor units a year, in millionths
-    let exact = -100_000_000_000_000_000_000;
-    assert!(rt; report.rows[0].lo <= exact && exact <= report.rows[0].hi);
-    assert!(rt; report.tolerance.as_slice() == [1_200_000_002].as_slice());
+    // name, scale, the whole numbers of millionths around the exact value, and the tolerance
+    for (name, scale, below, above, tolerance) in [
+        // 100 years of 10^12 minor units a year, which are paid by the insured
+        (
+            "large",
+            48,
+            -100_000_000_000_000_000_000,
+            -100_000_000_000_000_000_000,
+            1_200_000_002,
+        ),
+        // 240000 (1 - exp(-1/20)) = 11704.938119828..
+        ("interest", 15, 11_704_938_119, 11_704_938_120, 3),
+    ] {
+        let mut sink = sink(alloc, &[])?;
+        let finish = run(
+            alloc,
+            &words(alloc, &["value", name])?,
+            &mut shelf(alloc, &[])?,
+            &mut sink,
+        );
+        let report = finish.report.ok_or("no report")?;
+        assert_eq!(rt; report.rows.len(), 1, "{name}");
+        assert_eq!(rt; report.scale, scale, "{name}");
+        let row = &report.rows[0];
+        assert!(rt; row.lo <= below && above <= row.hi, "{name}");
+        assert!(rt; report.tolerance.as_slice() == [tolerance].as_slice(), "{name}");
+    }
     Ok(())
 }
 
