@@ -1,17 +1,16 @@
--- Driven sequences decay, and what decays has a small tail.
-use Rattle.std.specs.Prelude.{◌≡◌, ℕ, suc, zero, pos, negsuc, [], ◌∷◌, ◌⊎◌, ◌<◌, ◌≤◌, ◌+◌, ◌-◌}
+-- Driven sequences decay.
+use Rattle.std.specs.Prelude.{◌≡◌, ℕ, suc, zero, pos, [], ◌∷◌, ◌⊎◌, ◌<◌, ◌≤◌, ◌+◌, ◌-◌}
 use Rattle.std.proofs.Common.{refl, ap, ◌∙◌, arith, inl, inr}
-use Rattle.frac_laws.specs.Fraction.{Fraction, over, whole, ◌+ℚ◌, ◌*ℚ◌, ◌≤ℚ◌}
+use Rattle.frac_laws.specs.Fraction.{Fraction, whole, ◌+ℚ◌, ◌*ℚ◌, ◌≤ℚ◌}
 use Rattle.frac_laws.specs.Sums.{sum_to, power}
 use Rattle.frac_laws.specs.Convolution.{convolution}
-use Rattle.frac_laws.proofs.FractionTerms.{ring, terms}
-use Rattle.frac_laws.proofs.Order.{le_refl, le_trans}
-use Rattle.frac_laws.proofs.Linear.{linear, claims, natural, ◌⊞◌, ◌⊠◌, ◌·◌}
-use Rattle.frac_laws.proofs.Powers.{power_add, power_natural, power_inverse}
+use Rattle.frac_laws.proofs.Order.{le_trans}
+use Rattle.frac_laws.proofs.Linear.{linear, claims, natural, ◌⊞◌, ◌⊠◌}
+use Rattle.frac_laws.proofs.Powers.{power_add, power_natural}
 use Rattle.frac_laws.proofs.Sums.{sum_to_scale, sum_to_scale_right, sum_to_mono}
 use Rattle.cell_laws.specs.Tame.{weighted}
 use Rattle.cell_laws.specs.Driven.{CanDecay}
-use Rattle.cell_laws.specs.ScalarLaws.{WeightedTailsAreSmall, WeightedRightSidesAreSmall}
+use Rattle.cell_laws.specs.ScalarLaws.{WeightedRightSidesAreSmall}
 use Rattle.cell_laws.specs.ScalarLaws.{DrivenSequencesDecay}
 use Rattle.cell_laws.proofs.Cancelling.{cancel_suc, two_le_suc}
 
@@ -83,25 +82,3 @@ module _ (n : ℕ) (a f v : ℕ → Fraction) (alpha first later start bound : F
 pub driven_sequences_decay : DrivenSequencesDecay
 driven_sequences_decay n a f v alpha first later start bound p k b =
     upto n a f v alpha first later start bound p n (omega arith) k b
-
-pub weighted_tails_are_small : WeightedTailsAreSmall
-weighted_tails_are_small v bound s r hv hb each = linear
-    (power (whole (pos 8)) s ∷ sum_to r (λ i. v (s + i)) ∷ bound ∷ power (over (pos 1) 8) r ∷ [])
-    (natural 8 1 ⊠ (hb ⊠ power_natural r (natural 1 8)) ⊞ left r (λ i b. each i b)) (hlevel claims) refl
-  where
-    left_step : (e q g x t : Fraction) → whole (pos 0) ≤ℚ q → g *ℚ q ≡ whole (pos 1) → e *ℚ g *ℚ x ≤ℚ bound
-        → whole (pos 7) *ℚ e *ℚ t +ℚ whole (pos 8) *ℚ bound *ℚ q ≤ℚ whole (pos 8) *ℚ bound
-        → whole (pos 7) *ℚ e *ℚ (t +ℚ x) +ℚ whole (pos 8) *ℚ bound *ℚ (over (pos 1) 8 *ℚ q) ≤ℚ whole
-        (pos 8) *ℚ bound
-    left_step e q g x t hq inv h k = linear (e ∷ q ∷ g ∷ x ∷ t ∷ bound ∷ [])
-        (natural 7 1 ⊠ (h ⊠ hq) ⊞ (whole (negsuc 6) *ℚ e *ℚ x) · inv ⊞ k) (hlevel claims) refl
-
-    left : (r : ℕ) → ((i : ℕ) → i < r → weighted v (s + i) ≤ℚ bound)
-        → whole (pos 7) *ℚ power (whole (pos 8)) s *ℚ sum_to r (λ i. v (s + i)) +ℚ whole
-        (pos 8) *ℚ bound *ℚ power (over (pos 1) 8) r ≤ℚ whole (pos 8) *ℚ bound
-    left zero h = linear (power (whole (pos 8)) s ∷ bound ∷ []) (le_refl bound) (hlevel claims) refl
-    left (suc r) h = left_step (power (whole (pos 8)) s) (power (over (pos 1) 8) r)
-        (power (whole (pos 8)) r) (v (s + r)) (sum_to r (λ i. v (s + i)))
-        (power_natural r (natural 1 8)) (power_inverse (whole (pos 8)) (over (pos 1) 8) r
-        (ring [] (hlevel terms) refl))
-        (rw (← power_add (whole (pos 8)) s r) (h r (omega arith))) (left r (λ i b. h i (omega arith)))

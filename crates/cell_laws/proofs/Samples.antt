@@ -1,10 +1,11 @@
 -- The samples, computed.
-use Rattle.std.specs.Prelude.{◌≡◌, refl, pos, pred}
+use Rattle.std.specs.Prelude.{◌≡◌, refl, pos, pred, true, false}
 use mathlib.Core.Quot.{sound}
 use Rattle.frac_laws.specs.Fraction.{◌+ℚ◌, ◌*ℚ◌, ◌-ℚ◌, opposite, is_not_negative, size, greater}
 use Rattle.frac_laws.specs.Lists.{number_at}
 use Rattle.cell_laws.specs.Pairs.{second_taylor_value}
 use Rattle.cell_laws.specs.Samples.{plus, minus, two, sample_pair}
+use Rattle.cell_laws.specs.Samples.{BackwardGrowthIsLeast, ForwardGrowthIsLeast, SecondGrowthIsLeast}
 use Rattle.cell_laws.specs.Samples.{BackwardSystemIsTame, ForwardSystemIsTame, SamplePairIsTame}
 use Rattle.cell_laws.specs.Samples.{HalvingValueIsExact, BackwardValueIsExact, ForwardValueIsExact}
 use Rattle.cell_laws.specs.Samples.{SecondValueIsExact}
@@ -50,6 +51,21 @@ sample_pair_is_tame = record {
   coupling = record { le = refl };
   total_coupling = record { le = refl };
 }
+
+impossible : false ≡ true → ⊥
+impossible e = cc
+
+pub backward_growth_is_least : BackwardGrowthIsLeast
+unfolding ◌+ℚ◌ ◌*ℚ◌ ◌-ℚ◌ opposite is_not_negative size greater
+backward_growth_is_least h = impossible h.growth.le
+
+pub forward_growth_is_least : ForwardGrowthIsLeast
+unfolding ◌+ℚ◌ ◌*ℚ◌ ◌-ℚ◌ opposite is_not_negative size greater
+forward_growth_is_least h = impossible h.growth.le
+
+pub second_growth_is_least : SecondGrowthIsLeast
+unfolding ◌+ℚ◌ ◌*ℚ◌ ◌-ℚ◌ opposite is_not_negative size greater
+second_growth_is_least h = impossible h.growth.le
 
 pub backward_value_is_exact : BackwardValueIsExact
 unfolding ◌+ℚ◌ ◌*ℚ◌

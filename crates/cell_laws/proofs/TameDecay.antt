@@ -9,6 +9,7 @@ use Rattle.frac_laws.specs.Norms.{Norm, Sup, norm_of_vector}
 use Rattle.frac_laws.proofs.FractionTerms.{terms}
 use Rattle.frac_laws.proofs.Order.{le_refl, le_trans, le_of_equal, add_mono}
 use Rattle.frac_laws.proofs.Linear.{linear, claims, natural, ◌⊞◌, ◌⊠◌}
+use Rattle.frac_laws.proofs.GeometricTails.{tail_of_eighths}
 use Rattle.frac_laws.proofs.Norms.{norm_natural, norm-add_lists}
 use Rattle.cell_laws.specs.Systems.{System, sum_of_images, coefficients, coefficient}
 use Rattle.cell_laws.specs.Pairs.{CoupledPair, received, second_coefficient}
@@ -20,7 +21,6 @@ use Rattle.cell_laws.specs.DecayLaws.{StoredTailsAreBelowAUnit, SecondTailsAreBe
 use Rattle.cell_laws.specs.DecayLaws.{StoredSecondTailsAreBelowAUnit}
 use Rattle.cell_laws.proofs.Runs.{norms_driven, norm_of_images-run}
 use Rattle.cell_laws.proofs.Decay.{eights_natural, driven_sequences_decay, weighted_right_sides_are_small}
-use Rattle.cell_laws.proofs.Decay.{weighted_tails_are_small}
 use Rattle.cell_laws.proofs.TameSums.{matrix_norms_natural, weighted_within, free_within}
 use Rattle.cell_laws.proofs.TameSums.{first_weighted}
 
@@ -158,8 +158,7 @@ tail_of : (norm : Norm) (bound : Fraction) (y : ℕ → Vector) → whole (pos 0
     → DecaysBelow norm bound y → (terms : ℕ)
     → whole (pos 7) *ℚ power (whole (pos 8)) 25 *ℚ sum_to terms (λ i. norm_of_vector norm (y (25 + i)))
     ≤ℚ whole (pos 8) *ℚ bound
-tail_of norm bound y z h terms = weighted_tails_are_small (norms norm y) bound 25 terms
-    (λ k. norm_natural norm (y k)) z (λ i b. h (25 + i))
+tail_of norm bound y z h terms = tail_of_eighths bound (norms norm y) 25 terms z (λ i b. h (25 + i))
 
 tail_below_896 : (x : Fraction) → whole (pos 7) *ℚ power (whole (pos 8)) 25 *ℚ x ≤ℚ whole (pos 8) *ℚ whole
     (pos 2) → x ≤ℚ over (pos 1) (896 * 2 ^ 64)

@@ -10,14 +10,11 @@ use Rattle.frac_laws.proofs.Linear.{linear, claims, natural, ◌⊞◌, ◌⊠�
 use Rattle.frac_laws.proofs.Sums.{sum_to_ext, sum_to_add, sum_to_scale, sum_to_scale_right, sum_to_mono}
 use Rattle.frac_laws.proofs.Sums.{sum_to_first, sum_to_longer, sum_to_zero}
 use Rattle.frac_laws.proofs.Signs.{sum_natural}
-use Rattle.frac_laws.proofs.Convolutions.{convolution_natural, convolution_total, convolution_total_le}
+use Rattle.frac_laws.proofs.Convolutions.{convolution_natural, convolution_total_le}
 use Rattle.cell_laws.specs.Driven.{IsNatural, IsDriven}
-use Rattle.cell_laws.specs.ScalarLaws.{ConvolutionsTotal, ConvolutionsStayWithin, multiplied, DrivenTotals}
+use Rattle.cell_laws.specs.ScalarLaws.{ConvolutionsStayWithin, multiplied, DrivenTotals}
 use Rattle.cell_laws.specs.ScalarLaws.{DrivenTotalsAt64, DrivenTotalsAt32, SecondOrderPartsAreSmall}
 use Rattle.cell_laws.proofs.Cancelling.{cancel_suc, two_le_suc}
-
-pub convolutions_total : ConvolutionsTotal
-convolutions_total n a b = convolution_total n a b
 
 pub convolutions_stay_within : ConvolutionsStayWithin
 convolutions_stay_within n a b ha hb = convolution_total_le n ha hb

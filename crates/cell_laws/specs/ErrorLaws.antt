@@ -1,5 +1,5 @@
 -- How far two Taylor values of one tame system or pair are apart: from two starts, and of two degrees.
-use Rattle.std.specs.Prelude.{ℕ, pos, length, ◌≤◌, ◌+◌, ◌*◌, ◌^◌}
+use Rattle.std.specs.Prelude.{ℕ, pos, length, ◌≤◌, ◌+◌}
 use Rattle.frac_laws.specs.Fraction.{Fraction, over, whole, ◌+ℚ◌, ◌*ℚ◌, ◌≤ℚ◌}
 use Rattle.frac_laws.specs.Lists.{Vector, subtract_lists}
 use Rattle.frac_laws.specs.Norms.{Norm, Sup, norm_of_vector}

@@ -59,16 +59,25 @@ sample_pair = record {
       ∷ (two (plus 0 1) (plus 1 2048) ∷ two (plus 0 1) (plus 0 1) ∷ []) ∷ [];
 }
 
--- each is tame with the least growth that it has
+-- each is tame in its norm with some growth
 abbrev pub BackwardSystemIsTame : Type 0
 BackwardSystemIsTame = IsTame Sup 280319832 backward_system
 
--- (the forward one in the norm Sum)
 abbrev pub ForwardSystemIsTame : Type 0
 ForwardSystemIsTame = IsTame Sum 82932358 forward_system
 
 abbrev pub SamplePairIsTame : Type 0
 SamplePairIsTame = IsTamePair 547534606 (over (pos 5) 384) sample_pair
+
+-- and with none that is less
+abbrev pub BackwardGrowthIsLeast : Type 0
+BackwardGrowthIsLeast = ¬ IsTame Sup 280319831 backward_system
+
+abbrev pub ForwardGrowthIsLeast : Type 0
+ForwardGrowthIsLeast = ¬ IsTame Sum 82932357 forward_system
+
+abbrev pub SecondGrowthIsLeast : Type 0
+SecondGrowthIsLeast = ¬ IsTame Sup 547534605 second_system
 
 -- a Taylor value of two numbers
 abbrev pub IsTwo : Vector → Fraction → Fraction → Type 0

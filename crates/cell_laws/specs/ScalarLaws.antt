@@ -1,28 +1,15 @@
 -- The laws of driven sequences. The constants are those that tame systems need.
-use Rattle.std.specs.Prelude.{◌≡◌, ℕ, suc, pos, ◌<◌, ◌≤◌, ◌+◌, ◌-◌}
+use Rattle.std.specs.Prelude.{ℕ, suc, pos, ◌<◌, ◌≤◌, ◌-◌}
 use Rattle.frac_laws.specs.Fraction.{Fraction, over, whole, ◌+ℚ◌, ◌*ℚ◌, ◌-ℚ◌, ◌≤ℚ◌}
 use Rattle.frac_laws.specs.Sums.{sum_to, power}
 use Rattle.frac_laws.specs.Convolution.{convolution}
 use Rattle.cell_laws.specs.Tame.{weighted}
 use Rattle.cell_laws.specs.Driven.{IsNatural, IsDriven, CanDecay}
 
--- the total of a convolution
-abbrev pub ConvolutionsTotal : Type 0
-ConvolutionsTotal =
-    (n : ℕ) (a b : ℕ → Fraction) → sum_to n (convolution a b) ≡ sum_to n (λ m. a m *ℚ sum_to (n - m) b)
-
--- it is at most the product of the two totals
+-- the total of a convolution is at most the product of the two totals
 abbrev pub ConvolutionsStayWithin : Type 0
 ConvolutionsStayWithin = (n : ℕ) (a b : ℕ → Fraction) → IsNatural a → IsNatural b
     → sum_to n (convolution a b) ≤ℚ sum_to n a *ℚ sum_to n b
-
--- where 8^k v_k is at most a bound at r places from s on, 7 * 8^s (v_s + .. + v_(s+r-1)) is at most 8
--- bounds
-abbrev pub WeightedTailsAreSmall : Type 0
-WeightedTailsAreSmall =
-    (v : ℕ → Fraction) (bound : Fraction) (s r : ℕ) → IsNatural v → whole (pos 0) ≤ℚ bound
-    → ((i : ℕ) → i < r → weighted v (s + i) ≤ℚ bound)
-    → whole (pos 7) *ℚ power (whole (pos 8)) s *ℚ sum_to r (λ i. v (s + i)) ≤ℚ whole (pos 8) *ℚ bound
 
 -- where the w^m a_m add up to at most alpha and each w^j v_j is at most a bound, w^k times the convolution
 -- is

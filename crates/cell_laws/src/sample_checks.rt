@@ -2,6 +2,8 @@
 
 ghost use Rattle.cell_laws.specs.Samples.{BackwardSystemIsTame, ForwardSystemIsTame};
 ghost use Rattle.cell_laws.specs.Samples.{SamplePairIsTame};
+ghost use Rattle.cell_laws.specs.Samples.{BackwardGrowthIsLeast, ForwardGrowthIsLeast};
+ghost use Rattle.cell_laws.specs.Samples.{SecondGrowthIsLeast};
 ghost use Rattle.cell_laws.specs.Samples.{HalvingValueIsExact, BackwardValueIsExact};
 ghost use Rattle.cell_laws.specs.Samples.{ForwardValueIsExact, SecondValueIsExact};
 
@@ -11,6 +13,13 @@ pub fn samples_are_tame()
     ensures backward { BackwardSystemIsTame }
     ensures forward { ForwardSystemIsTame }
     ensures pair { SamplePairIsTame }
+{}
+
+/// The growth of each sample is the least that it has.
+pub fn sample_growths_are_least()
+    ensures backward { BackwardGrowthIsLeast }
+    ensures forward { ForwardGrowthIsLeast }
+    ensures second { SecondGrowthIsLeast }
 {}
 
 /// Taylor values of the samples, beside numbers that another program computed.

@@ -1,19 +1,12 @@
 //! The laws of driven sequences. Each function says one law and returns at once.
 
-ghost use Rattle.cell_laws.specs.ScalarLaws.{ConvolutionsTotal, ConvolutionsStayWithin};
-ghost use Rattle.cell_laws.specs.ScalarLaws.{WeightedTailsAreSmall, WeightedRightSidesAreSmall};
+ghost use Rattle.cell_laws.specs.ScalarLaws.{ConvolutionsStayWithin, WeightedRightSidesAreSmall};
 ghost use Rattle.cell_laws.specs.ScalarLaws.{DrivenSequencesDecay, DrivenTotals};
 ghost use Rattle.cell_laws.specs.ScalarLaws.{DrivenTotalsAt64, DrivenTotalsAt32, SecondOrderPartsAreSmall};
 
-/// The total of a convolution.
-pub fn convolutions_total()
-    ensures exact { ConvolutionsTotal }
-    ensures within { ConvolutionsStayWithin }
-{}
-
-/// A sum of terms that fall by a factor of 8 is at most 8/7 of its first bound.
-pub fn weighted_tails_are_small()
-    ensures { WeightedTailsAreSmall }
+/// The total of a convolution is within the product of the totals.
+pub fn convolutions_stay_within()
+    ensures { ConvolutionsStayWithin }
 {}
 
 /// The right side of a recurrence, weighted by `w^k`.

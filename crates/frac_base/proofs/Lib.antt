@@ -1,4 +1,4 @@
+pub mod Respect
 pub mod Ring
 pub mod WholeRing
 pub mod WholeTerms
-pub mod Respect

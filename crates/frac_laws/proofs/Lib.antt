@@ -9,11 +9,15 @@ pub mod Gaps
 pub mod GeometricTails
 pub mod LedgerFacts
 pub mod LedgerLaws
+pub mod Lengths
 pub mod Linear
+pub mod ListAlgebra
 pub mod ListProducts
 pub mod Norms
 pub mod Order
 pub mod OrderFacts
+pub mod PolynomialFacts
+pub mod Polynomials
 pub mod Positive
 pub mod Powers
 pub mod QuotientFacts
@@ -29,9 +33,5 @@ pub mod SmallNumbers
 pub mod SumFacts
 pub mod Sums
 pub mod Vectors
-pub mod Lengths
 pub mod WholeProducts
 pub mod WorkedCalls
-pub mod ListAlgebra
-pub mod Polynomials
-pub mod PolynomialFacts

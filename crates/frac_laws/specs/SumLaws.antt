@@ -1,5 +1,5 @@
 -- Sums, powers and products of lists.
-use Rattle.std.specs.Prelude.{◌≡◌, ℕ, pos, List, ◌+◌, ◌-◌, ◌<◌}
+use Rattle.std.specs.Prelude.{◌≡◌, ◌≢◌, ℕ, pos, List, ◌+◌, ◌-◌, ◌<◌}
 use Rattle.frac_laws.specs.Fraction.{Fraction, whole, size, ◌+ℚ◌, ◌-ℚ◌, ◌*ℚ◌, ◌≤ℚ◌}
 use Rattle.frac_laws.specs.Sums.{sum_to, sum_of_list, power}
 use Rattle.frac_laws.specs.Lists.{number_at}
@@ -22,6 +22,11 @@ SumsExchange = (n m : ℕ) (f : ℕ → ℕ → Fraction)
 -- the size of a sum is at most the sum of the sizes
 abbrev pub SizeOfSumIsWithinSizes : Type 0
 SizeOfSumIsWithinSizes = (n : ℕ) (f : ℕ → Fraction) → size (sum_to n f) ≤ℚ sum_to n (λ k. size (f k))
+
+-- a sum in which one term alone is not 0 is that term
+abbrev pub SumOfOneTerm : Type 0
+SumOfOneTerm = (n i : ℕ) (f : ℕ → Fraction) → i < n → ((j : ℕ) → j ≢ i → f j ≡ whole (pos 0))
+    → sum_to n f ≡ f i
 
 -- x^(n + m) = x^n x^m
 abbrev pub PowersAdd : Type 0
@@ -56,3 +61,8 @@ NumbersOfListProduct = (xs ys : List Fraction) (k : ℕ)
 abbrev pub ConvolutionTotal : Type 0
 ConvolutionTotal = (n : ℕ) (a b : ℕ → Fraction)
     → sum_to n (convolution a b) ≡ sum_to n (λ m. a m *ℚ sum_to (n - m) b)
+
+-- for numbers that are not negative, the total of a convolution is at most the product of the totals
+abbrev pub ConvolutionIsWithinTotals : Type 0
+ConvolutionIsWithinTotals = (n : ℕ) (a b : ℕ → Fraction) → ((k : ℕ) → whole (pos 0) ≤ℚ a k)
+    → ((k : ℕ) → whole (pos 0) ≤ℚ b k) → sum_to n (convolution a b) ≤ℚ sum_to n a *ℚ sum_to n b

@@ -52,9 +52,9 @@ pub use size_laws::{
     size_is_not_negative, size_is_within, size_of_opposite, size_of_product, size_of_sum,
 };
 pub use sum_laws::{
-    convolution_has_total, numbers_of_list_product, powers_add, powers_of_products, powers_sum,
-    size_of_sum_is_within_sizes, sum_of_multiples, sum_of_sums, sums_exchange,
-    tail_of_eighths_is_small, total_of_list_product,
+    convolution_has_total, convolution_is_within_totals, numbers_of_list_product, powers_add,
+    powers_of_products, powers_sum, size_of_sum_is_within_sizes, sum_of_multiples, sum_of_one_term,
+    sum_of_sums, sums_exchange, tail_of_eighths_is_small, total_of_list_product,
 };
 pub use worked_calls::{
     bound_is_divided, difference_of_squares, eighths_make_a_quarter, equations_are_used,

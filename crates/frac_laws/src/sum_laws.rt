@@ -4,6 +4,7 @@ ghost use Rattle.frac_laws.specs.SumLaws.{SumOfSums, SumOfMultiples, SumsExchang
 ghost use Rattle.frac_laws.specs.SumLaws.{SizeOfSumIsWithinSizes, PowersAdd, PowersOfProducts};
 ghost use Rattle.frac_laws.specs.SumLaws.{PowersSum, TailOfEighthsIsSmall, TotalOfListProduct};
 ghost use Rattle.frac_laws.specs.SumLaws.{NumbersOfListProduct, ConvolutionTotal};
+ghost use Rattle.frac_laws.specs.SumLaws.{SumOfOneTerm, ConvolutionIsWithinTotals};
 
 /// The sum of f + g.
 #[tactic(auto, using(crate::proofs::Sums::sum_to_add))]
@@ -27,6 +28,11 @@ pub fn sums_exchange()
 #[tactic(auto, using(crate::proofs::SumFacts::sizes))]
 pub fn size_of_sum_is_within_sizes()
     ensures { SizeOfSumIsWithinSizes }
+{}
+
+/// A sum in which one term alone is not 0 is that term.
+pub fn sum_of_one_term()
+    ensures { SumOfOneTerm }
 {}
 
 /// `x^(n + m) = x^n x^m`.
@@ -69,4 +75,10 @@ pub fn numbers_of_list_product()
 #[tactic(auto, using(crate::proofs::Convolutions::convolution_total))]
 pub fn convolution_has_total()
     ensures { ConvolutionTotal }
+{}
+
+/// For numbers that are not negative, the total of a convolution is at most the product of the totals.
+#[tactic(auto, using(crate::proofs::SumFacts::within_totals))]
+pub fn convolution_is_within_totals()
+    ensures { ConvolutionIsWithinTotals }
 {}

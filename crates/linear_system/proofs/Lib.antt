@@ -1,0 +1,6 @@
+pub mod Clearing
+pub mod Columns
+pub mod Made
+pub mod Places
+pub mod Rows
+pub mod Writes

@@ -1,0 +1,5 @@
+pub mod Months
+pub mod Shifts
+pub mod Sixes
+pub mod Units
+pub mod Values

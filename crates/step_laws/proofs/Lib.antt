@@ -1,0 +1,15 @@
+pub mod Differences
+pub mod Distances
+pub mod Errors
+pub mod Grown
+pub mod Halves
+pub mod Images
+pub mod Listed
+pub mod PairRadii
+pub mod PairSteps
+pub mod Residues
+pub mod Samples
+pub mod Steps
+pub mod StoredNorms
+pub mod StoredPairs
+pub mod StoredSteps

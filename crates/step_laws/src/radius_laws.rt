@@ -1,0 +1,18 @@
+//! The promise of a step. Each function says laws and returns at once.
+
+ghost use Rattle.step_laws.specs.StepLaws.{StepsStayWithinTheirRadius};
+ghost use Rattle.step_laws.specs.StepLaws.{FirstHalvesStayWithinTheirRadius};
+ghost use Rattle.step_laws.specs.StepLaws.{SecondHalvesStayWithinTheirRadius};
+
+/// 24 coefficients of a stored system, each rounded down once, add up with their start to a vector within the
+/// grown radius of each Taylor value of degree 24 or more of the exact system, in both norms.
+pub fn steps_stay_within_their_radius()
+    ensures { StepsStayWithinTheirRadius }
+{}
+
+/// The same for both halves of a pair in the norm Sup; the second half's radius also grows by a whole number
+/// of at least `c` times the first half's.
+pub fn pair_steps_stay_within_their_radius()
+    ensures first { FirstHalvesStayWithinTheirRadius }
+    ensures second { SecondHalvesStayWithinTheirRadius }
+{}

@@ -1,0 +1,17 @@
+pub mod Blocks
+pub mod Fits
+pub mod FitsByRows
+pub mod FitsBySums
+pub mod Floors
+pub mod ListedNumbers
+pub mod Promise
+pub mod RowProducts
+pub mod Rows
+pub mod SampleSteps
+pub mod Scaled
+pub mod Sizes
+pub mod Sparse
+pub mod StoredSizes
+pub mod SumForms
+pub mod Turns
+pub mod Windows

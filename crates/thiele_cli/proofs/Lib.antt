@@ -1,0 +1,11 @@
+pub mod Cases
+pub mod Enclosures
+pub mod Endings
+pub mod FlatLedgers
+pub mod FlatValues
+pub mod Growth
+pub mod Parts
+pub mod Plans
+pub mod RowLines
+pub mod Valuations
+pub mod WordLists

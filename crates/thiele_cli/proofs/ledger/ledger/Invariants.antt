@@ -1,0 +1,6 @@
+use Rattle.std.proofs.Common.{◌≡◌, ◌*◌}
+use Rattle.thiele_cli.specs.FlatLedger.{ledger_after}
+use Rattle.thiele_cli.proofs.ledger.ledger.Given as goal
+
+abbrev pub invariant-loop-cell : goal.invariant-loop-cell
+invariant-loop-cell l = record { value : l.ledger ≡ ledger_after 0 l.add l._cell; sum : l.ledger ≡ l._cell * l.add }

@@ -1,0 +1,43 @@
+-- The value of a contract with one state, exactly: Thiele's equation by Taylor steps, cell by cell, from the term to
+-- issue. A year has 384 cells. In a cell the equation, read into the past from the cell's end, is w' = -r w + b, where
+-- r is the force of interest and b the payment, both over a cell (Hoem 1969; Dickson, Hardy and Waters).
+use Rattle.std.specs.Prelude.{ℕ, zero, suc, ◌*◌, pos, nat_abs}
+use Rattle.frac_laws.specs.Fraction.{Fraction, whole, over, ◌+ℚ◌, ◌*ℚ◌, opposite}
+use Rattle.frac_laws.specs.Sums.{sum_to}
+use Rattle.product_reader.specs.FlatTree.{FlatProduct}
+
+-- the force of interest over a cell
+abbrev pub cell_interest : FlatProduct → Fraction
+cell_interest p = over p.interest (384 * nat_abs p.den)
+
+-- the payment over a cell, in minor units
+abbrev pub cell_payment : FlatProduct → Fraction
+cell_payment p = over p.rate 384
+
+-- what the payment adds to the equation at a power of the cell's variable: it is constant
+abbrev pub payment_at : FlatProduct → ℕ → Fraction
+payment_at p zero = cell_payment p
+payment_at p (suc k) = whole (pos 0)
+
+-- the Taylor coefficients over a cell, from the value at its end: (k + 1) w_(k+1) = -r w_k + b_k
+abbrev pub coefficient : FlatProduct → Fraction → ℕ → Fraction
+coefficient p end zero = end
+coefficient p end (suc k) =
+    over (pos 1) (suc k) *ℚ (opposite (cell_interest p) *ℚ coefficient p end k +ℚ payment_at p k)
+
+-- the Taylor value of degree n: the sum of the coefficients 0 to n
+abbrev pub taylor_value : FlatProduct → Fraction → ℕ → Fraction
+taylor_value p end n = sum_to (suc n) (coefficient p end)
+
+-- the degree-n run: the value that many cells before the term, where it is 0
+abbrev pub value_before_term : FlatProduct → ℕ → ℕ → Fraction
+value_before_term p n zero = whole (pos 0)
+value_before_term p n (suc cells) = taylor_value p (value_before_term p n cells) n
+
+-- the cells of the term: 32 a month
+abbrev pub cells_of : FlatProduct → ℕ
+cells_of p = 32 * p.months
+
+-- the value at issue by the degree-n run, in minor units
+abbrev pub value_at_issue : FlatProduct → ℕ → Fraction
+value_at_issue p n = value_before_term p n (cells_of p)

@@ -1,0 +1,49 @@
+// How a run ends.
+ghost use Rattle.std.specs.Prelude.{◌≡◌};
+ghost use Rattle.thiele_cli.specs.Outcome.{status_of};
+
+use crate::report::Report;
+
+/// How a run ended. `run` says when each end comes.
+#[derive(Clone, Copy, Debug, PartialEq, Eq)]
+pub enum End {
+    /// The report was written.
+    Done,
+    /// The words or the file are of a form that this program does not value yet.
+    NotBuilt,
+    /// The file could not be fetched.
+    FetchFault,
+    /// The file has more than 1,048,576 bytes, of which this many were taken.
+    TooLong { seen: u64 },
+    /// The file is no TOML text.
+    NotToml,
+    /// Some of the text could not be written.
+    WriteFault,
+    /// Memory was refused.
+    Memory,
+}
+
+impl End {
+    /// The exit status of the program.
+    pub fn status(self) -> u8
+        ensures { result ≡ status_of self }
+    {
+        match self {
+            End::Done => 0,
+            End::FetchFault => 3,
+            End::TooLong { .. } => 4,
+            End::NotToml => 5,
+            End::WriteFault => 8,
+            End::Memory => 9,
+            End::NotBuilt => 10,
+        }
+    }
+}
+
+/// What a run answers: its end with its exit status, and the report where one was to be written.
+#[derive(Drop)]
+pub struct Finish {
+    pub status: u8,
+    pub end: End,
+    pub report: Option<Report>,
+}

@@ -1,0 +1,80 @@
+#!/usr/bin/env bash
+# Runs the built program on real files and devices: what no proof sees of the system's files and its output.
+# The last line counts what passed and what failed.
+set -u
+top=$(cd "$(dirname "$0")/.." && pwd) || exit 2
+program=$top/crates/thiele_cli/out/thiele_cli
+( cd "$top/crates/thiele_cli" && rt run -- value "$top/examples/flat.toml" ) >/dev/null 2>&1
+if [ ! -x "$program" ]; then
+  echo "the program is not built: $program"
+  echo "0 passed, 1 failed"
+  exit 1
+fi
+
+work=$(mktemp -d) || exit 2
+trap 'rm -rf "$work"' EXIT
+passed=0
+failed=0
+
+# name, wanted status, wanted output, then the words
+try() {
+  local name=$1 status=$2 output=$3
+  shift 3
+  local found
+  found=$("$program" "$@" 2>"$work/errors"; printf 'status %s' "$?")
+  if [ "$found" = "${output}status $status" ] && [ ! -s "$work/errors" ]; then
+    passed=$((passed + 1))
+  else
+    failed=$((failed + 1))
+    printf 'FAILED %s: wanted\n%sstatus %s\nfound\n%s\n' "$name" "$output" "$status" "$found"
+  fi
+}
+
+unbuilt=$'refused unbuilt\n'
+
+cat >"$work/lump.toml" <<'TOML'
+format = 1
+name = "lump"
+months = 12
+den = 20
+start = "on"
+states = ["on"]
+interest = [{ from = 0, c = [1] }]
+lump = [{ month = 12, state = "on", amount = 10000 }]
+TOML
+printf 'format = 1\nname = "fl' >"$work/cut.toml"
+{ cat "$top/examples/flat.toml"; head -c 1048576 /dev/zero | tr '\0' '#'; } | head -c 1048577 >"$work/long.toml"
+head -c 1048576 "$work/long.toml" >"$work/longest.toml"
+
+flat=$'report value flat\ndegree 24 scale 10\n0 on value 383.999999 384.000001 0.000003\nend 1\n'
+# by hand: each of 38,400 cells rounds 10^12 * 2^16 / 384 down, and the radius is 38,400 * 1024, in units of 2^-16
+largest=$'report value largest\ndegree 24 scale 48\n0 on value 99999999999399.609375 100000000000599.609375 1200.000002\nend 1\n'
+
+try 'a flat file' 0 "$flat" value "$top/examples/flat.toml"
+try 'the largest rate over the longest term' 0 "$largest" value "$top/examples/largest.toml"
+try 'a file of 1,048,576 bytes' 0 "$flat" value "$work/longest.toml"
+try 'a file of 1,048,577 bytes' 4 $'refused length 1048577\n' value "$work/long.toml"
+try 'a file with a lump' 10 "$unbuilt" value "$work/lump.toml"
+try 'a file with interest' 10 "$unbuilt" value "$top/examples/with_interest.toml"
+try 'a file cut inside a string' 5 $'refused toml\n' value "$work/cut.toml"
+try 'an empty file' 10 "$unbuilt" value /dev/null
+try 'a missing file' 3 '' value "$work/missing.toml"
+try 'a folder for a file' 3 '' value "$work"
+try 'no words' 10 "$unbuilt"
+try 'a word too few' 10 "$unbuilt" value
+try 'an unknown command' 10 "$unbuilt" price "$top/examples/flat.toml"
+try 'an empty name' 10 "$unbuilt" value ''
+try 'a word that is no text' 2 '' value $'\xff'
+
+# a full device takes nothing
+"$program" value "$top/examples/flat.toml" >/dev/full 2>"$work/errors"
+status=$?
+if [ "$status" -eq 8 ] && [ ! -s "$work/errors" ]; then
+  passed=$((passed + 1))
+else
+  failed=$((failed + 1))
+  echo "FAILED a full device: wanted status 8, found $status"
+fi
+
+echo "$passed passed, $failed failed"
+[ "$failed" -eq 0 ]
