@@ -1,9 +1,9 @@
 -- The Bernstein numerators of a month are those of the product's month numbers.
-use Rattle.std.proofs.Common.{◌≡◌, ℕ, zero, suc, ◌+◌, ◌-◌, ◌*◌, ◌<◌, ◌≤◌, ℤ, pos, ◌*ℤ◌, ◌≤ℤ◌, List, [], ◌∷◌, length}
+use Rattle.std.proofs.Common.{◌≡◌, ℕ, ◌+◌, ◌*◌, ◌<◌, ◌≤◌, ℤ, pos, ◌≤ℤ◌, List, [], ◌∷◌, length}
 use Rattle.std.proofs.Common.{arith, refl, ap, sym, ◌∙◌}
 use mathlib.Core.Path.{ap₂}
 use Rattle.std.proofs.lemmas.Int.{ints}
-use Rattle.frac_laws.specs.Fraction.{Fraction, over}
+use Rattle.frac_laws.specs.Fraction.{over}
 use Rattle.frac_laws.specs.Polynomials.{all_over, shifted, stretched}
 use Rattle.frac_laws.specs.Bernstein.{bernstein_coefficient, bernstein_coefficients}
 use Rattle.frac_laws.proofs.Quotients.{cross_of_over_equal}
