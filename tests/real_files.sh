@@ -55,7 +55,7 @@ try 'the largest rate over the longest term' 0 "$largest" value "$top/examples/l
 try 'a file of 1,048,576 bytes' 0 "$flat" value "$work/longest.toml"
 try 'a file of 1,048,577 bytes' 4 $'refused length 1048577\n' value "$work/long.toml"
 try 'a file with a lump' 10 "$unbuilt" value "$work/lump.toml"
-try 'a file with interest' 10 "$unbuilt" value "$top/examples/with_interest.toml"
+try 'a file with interest' 0 "$interest" value "$top/examples/interest.toml"
 try 'a file cut inside a string' 5 $'refused toml\n' value "$work/cut.toml"
 try 'an empty file' 10 "$unbuilt" value /dev/null
 try 'a missing file' 3 '' value "$work/missing.toml"

@@ -30,22 +30,22 @@ positive n some = omega (arith, ints)
 -- the ends are no further apart than so many millionths and two
 ends_within_room : (lo hi mid : ℤ) (w g m u room : ℕ) → 0 < u → 2 * (w * (g * m)) ≤ room * u
     → lo ≡ floor_of ((mid -ℤ pos w) *ℤ pos (g * m)) (pos u)
-        → hi ≡ ceiling_of ((mid +ℤ pos w) *ℤ pos (g * m)) (pos u)
+    → hi ≡ ceiling_of ((mid +ℤ pos w) *ℤ pos (g * m)) (pos u)
     → hi ≤ℤ (lo +ℤ pos (room + 2))
 ends_within_room lo hi mid w g m u room some_units enough is_floor is_ceiling =
     let below = floor_high ((mid -ℤ pos w) *ℤ pos (g * m)) (pos u) (positive u some_units) in
     let low : ((mid -ℤ pos w) *ℤ pos (g * m)) ≤ℤ ((lo *ℤ pos u) +ℤ pos u) =
-        rw is_floor (omega (arith, ints, below)) in
+    rw is_floor (omega (arith, ints, below)) in
     let above = ceiling_low ((mid +ℤ pos w) *ℤ pos (g * m)) (pos u) (positive u some_units) in
     let high : (hi *ℤ pos u) ≤ℤ (((mid +ℤ pos w) *ℤ pos (g * m)) +ℤ pos u) =
-        rw is_ceiling (omega (arith, ints, above)) in
+    rw is_ceiling (omega (arith, ints, above)) in
     let gap = width_gap (whole hi) (whole lo) (whole mid) (whole (pos w)) (whole (pos g)) (whole (pos m))
-        (whole (pos room)) (whole (pos u))
+    (whole (pos room)) (whole (pos u))
     (simp (whole_mul, whole_add, whole_nat_mul) at (whole_le high))
-        (simp (whole_mul, whole_add, whole-opposite, whole_nat_mul) at (whole_le low))
+    (simp (whole_mul, whole_add, whole-opposite, whole_nat_mul) at (whole_le low))
     (simp whole_nat_mul at (whole_le (nat_le (2 * (w * (g * m))) (room * u) enough))) in
     product_le_cancel hi (lo +ℤ pos (room + 2)) u some_units
-        (le_of_whole (simp (whole_mul, whole_add, whole_nat_add) gap))
+    (le_of_whole (simp (whole_mul, whole_add, whole_nat_add) gap))
   where
     nat_le : (a b : ℕ) → a ≤ b → pos a ≤ℤ pos b
     nat_le a b order = omega (arith, ints)
@@ -57,7 +57,7 @@ ends_within_room lo hi mid w g m u room some_units enough is_floor is_ceiling =
 -- the ends are no further apart than the tolerance
 pub ends_within : (lo hi mid : ℤ) (w g m u : ℕ) → 0 < u
     → lo ≡ floor_of ((mid -ℤ pos w) *ℤ pos (g * m)) (pos u)
-        → hi ≡ ceiling_of ((mid +ℤ pos w) *ℤ pos (g * m)) (pos u)
+    → hi ≡ ceiling_of ((mid +ℤ pos w) *ℤ pos (g * m)) (pos u)
     → hi ≤ℤ (lo +ℤ pos (div_ceil (2 * w * g * m) u + 2))
 ends_within lo hi mid w g m u some_units is_floor is_ceiling =
     let enough = div_ceil_times (2 * w * g * m) u some_units in

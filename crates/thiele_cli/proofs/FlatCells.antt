@@ -22,7 +22,7 @@ interest_is_small : (i d : ℤ) → pos 1 ≤ℤ d → pos 0 ≤ℤ i → (pos 4
     → over i (384 * nat_abs d) ≤ℚ over (pos 1) 1536
 interest_is_small i d some least most =
     over_le_of_cross i (pos 1) (384 * nat_abs d) 1536 (omega (arith, ints)) (omega arith)
-        (omega (arith, ints))
+    (omega (arith, ints))
 
 -- the force of interest over a cell is from 0 to 1/1536
 pub cell_interest_natural : (p : FlatProduct) → HasRanges p → whole (pos 0) ≤ℚ cell_interest p
@@ -49,9 +49,9 @@ payment_small p g most =
     let some : 1 ≤ 2 ^ g = omega (arith, pow_pos g) in
     let product = over_mul p.rate (pos 1) 384 (2 ^ g) (omega arith) some in
     rw product (size_le_of_between
-      (linear (over (p.rate *ℤ pos 1) (384 * 2 ^ g) ∷ []) (payment_is_above p.rate (2 ^ g) some most)
-          (hlevel claims) refl)
-      (payment_is_below p.rate (2 ^ g) some most))
+    (linear (over (p.rate *ℤ pos 1) (384 * 2 ^ g) ∷ []) (payment_is_above p.rate (2 ^ g) some most)
+    (hlevel claims) refl)
+    (payment_is_below p.rate (2 ^ g) some most))
 
 -- 2^g undoes the scaling
 pub scaling-inverse : (g : ℕ) → whole (pos (2 ^ g)) *ℚ scaling g ≡ whole (pos 1)

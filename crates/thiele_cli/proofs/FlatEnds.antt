@@ -23,14 +23,14 @@ low_gap : (lo mid w g u v h m : Fraction) → lo ≤ℚ (mid -ℚ w) *ℚ (g *�
     → g *ℚ h ≡ whole (pos 1) → lo ≤ℚ m *ℚ v
 low_gap lo mid w g u v h m end near some inverse =
     linear (lo ∷ mid ∷ w ∷ g ∷ u ∷ v ∷ h ∷ m ∷ []) (end ⊞ near ⊠ some ⊞ (m *ℚ v) · inverse) (hlevel claims)
-        refl
+    refl
 
 high_gap : (hi mid w g u v h m : Fraction) → (mid +ℚ w) *ℚ (g *ℚ m) *ℚ u ≤ℚ hi → v *ℚ h ≤ℚ (mid +ℚ w) *ℚ u
     → whole (pos 0) ≤ℚ g *ℚ m
     → g *ℚ h ≡ whole (pos 1) → m *ℚ v ≤ℚ hi
 high_gap hi mid w g u v h m end near some inverse =
     linear (hi ∷ mid ∷ w ∷ g ∷ u ∷ v ∷ h ∷ m ∷ []) (end ⊞ near ⊠ some ⊞ (m *ℚ v) · sym inverse)
-        (hlevel claims) refl
+    (hlevel claims) refl
 
 products_natural : (g m : ℕ) → whole (pos 0) ≤ℚ whole (pos g) *ℚ whole (pos m)
 products_natural g m = linear (whole (pos g) ∷ whole (pos m) ∷ []) (natural g 1 ⊠ natural m 1) (hlevel claims)
@@ -42,44 +42,44 @@ scaled_units : (z : ℤ) (g m : ℕ) → over (z *ℤ pos (g * m)) (2 ^ 64) ≡ 
 scaled_units z g m =
     over_is (z *ℤ pos (g * m)) (2 ^ 64)
     ∙ ap (λ x. x *ℚ over (pos 1) (2 ^ 64)) (whole_mul z (pos (g * m)) ∙ ap (λ x. whole z *ℚ x)
-        (ap whole (sym (pos-*ℤ-pos g m)) ∙ whole_mul (pos g) (pos m)))
+    (ap whole (sym (pos-*ℤ-pos g m)) ∙ whole_mul (pos g) (pos m)))
 
 -- what a midpoint's radius says of the value
 below_value : (x : Fraction) (mid : ℤ) (w : ℕ) → size (x -ℚ over mid (2 ^ 64)) ≤ℚ over (pos w) (2 ^ 64)
     → (whole mid -ℚ whole (pos w)) *ℚ over (pos 1) (2 ^ 64) ≤ℚ x
 below_value x mid w near =
     linear (x ∷ whole mid ∷ whole (pos w) ∷ over (pos 1) (2 ^ 64) ∷ [])
-      (rw (over_is mid (2 ^ 64), over_is (pos w) (2 ^ 64)) at (opposite_le_of_size_le near)) (hlevel claims)
-          refl
+    (rw (over_is mid (2 ^ 64), over_is (pos w) (2 ^ 64)) at (opposite_le_of_size_le near)) (hlevel claims)
+    refl
 
 above_value : (x : Fraction) (mid : ℤ) (w : ℕ) → size (x -ℚ over mid (2 ^ 64)) ≤ℚ over (pos w) (2 ^ 64)
     → x ≤ℚ (whole mid +ℚ whole (pos w)) *ℚ over (pos 1) (2 ^ 64)
 above_value x mid w near =
     linear (x ∷ whole mid ∷ whole (pos w) ∷ over (pos 1) (2 ^ 64) ∷ [])
-      (rw (over_is mid (2 ^ 64), over_is (pos w) (2 ^ 64)) at (le_of_size_le near)) (hlevel claims) refl
+    (rw (over_is mid (2 ^ 64), over_is (pos w) (2 ^ 64)) at (le_of_size_le near)) (hlevel claims) refl
 
 lower_end_below : (lo mid : ℤ) (w g m : ℕ) (v h : Fraction)
     → lo ≡ floor_of ((mid -ℤ pos w) *ℤ pos (g * m)) (pos (2 ^ 64))
     → size (v *ℚ h -ℚ over mid (2 ^ 64)) ≤ℚ over (pos w) (2 ^ 64) → whole (pos g) *ℚ h ≡ whole (pos 1)
-        → whole lo ≤ℚ whole (pos m) *ℚ v
+    → whole lo ≤ℚ whole (pos m) *ℚ v
 lower_end_below lo mid w g m v h is_floor near inverse =
     let end = floor_le ((mid -ℤ pos w) *ℤ pos (g * m)) (2 ^ 64) (omega arith) in
     low_gap (whole lo) (whole mid) (whole (pos w)) (whole (pos g)) (over (pos 1) (2 ^ 64)) v h (whole (pos m))
-      (le_trans (le_of_equal (ap whole is_floor)) (rw (scaled_units (mid -ℤ pos w) g m, whole_sub mid (pos w))
-          at end))
-      (below_value (v *ℚ h) mid w near) (products_natural g m) inverse
+    (le_trans (le_of_equal (ap whole is_floor)) (rw (scaled_units (mid -ℤ pos w) g m, whole_sub mid (pos w))
+    at end))
+    (below_value (v *ℚ h) mid w near) (products_natural g m) inverse
 
 upper_end_above : (hi mid : ℤ) (w g m : ℕ) (v h : Fraction)
     → hi ≡ ceiling_of ((mid +ℤ pos w) *ℤ pos (g * m)) (pos (2 ^ 64))
     → size (v *ℚ h -ℚ over mid (2 ^ 64)) ≤ℚ over (pos w) (2 ^ 64) → whole (pos g) *ℚ h ≡ whole (pos 1)
-        → whole (pos m) *ℚ v ≤ℚ whole hi
+    → whole (pos m) *ℚ v ≤ℚ whole hi
 upper_end_above hi mid w g m v h is_ceiling near inverse =
     let end = le_ceiling ((mid +ℤ pos w) *ℤ pos (g * m)) (2 ^ 64) (omega arith) in
     high_gap (whole hi) (whole mid) (whole (pos w)) (whole (pos g)) (over (pos 1) (2 ^ 64)) v h
-        (whole (pos m))
-      (le_trans (rw (scaled_units (mid +ℤ pos w) g m, whole_add mid (pos w)) at end)
-          (le_of_equal (ap whole (sym is_ceiling))))
-      (above_value (v *ℚ h) mid w near) (products_natural g m) inverse
+    (whole (pos m))
+    (le_trans (rw (scaled_units (mid +ℤ pos w) g m, whole_add mid (pos w)) at end)
+    (le_of_equal (ap whole (sym is_ceiling))))
+    (above_value (v *ℚ h) mid w near) (products_natural g m) inverse
 
 -- the ends of the program enclose the value from degree 24 on
 pub ends_enclose : (p : FlatProduct) (g w : ℕ) (mid lo hi : ℤ) → IsMidpoint p g (cells_of p) mid w

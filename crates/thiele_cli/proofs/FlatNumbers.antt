@@ -35,27 +35,27 @@ floor_near z d some =
     let one = whole (pos (2 ^ 64)) in
     let unit = over (pos 1) (2 ^ 64) in
     let product : over (z *ℤ pos (2 ^ 64)) d ≡ over z d *ℚ one =
-      over_is (z *ℤ pos (2 ^ 64)) d ∙ ap (λ x. x *ℚ over (pos 1) d) (whole_mul z (pos (2 ^ 64)))
-      ∙ ring (whole z ∷ one ∷ over (pos 1) d ∷ []) (hlevel terms) refl ∙ ap (λ x. x *ℚ one)
-          (sym (over_is z d)) in
+    over_is (z *ℤ pos (2 ^ 64)) d ∙ ap (λ x. x *ℚ over (pos 1) d) (whole_mul z (pos (2 ^ 64)))
+    ∙ ring (whole z ∷ one ∷ over (pos 1) d ∷ []) (hlevel terms) refl ∙ ap (λ x. x *ℚ one)
+    (sym (over_is z d)) in
     let stored : over f (2 ^ 64) ≡ whole f *ℚ unit = over_is f (2 ^ 64) in
     let low = floor_gap_low (over z d) (over z d) (whole f) one unit
-      (le_trans (floor_le (z *ℤ pos (2 ^ 64)) d some) (le_of_equal product)) (inverse (2 ^ 64) (omega arith))
-          (natural 1 (2 ^ 64)) in
+    (le_trans (floor_le (z *ℤ pos (2 ^ 64)) d some) (le_of_equal product)) (inverse (2 ^ 64) (omega arith))
+    (natural 1 (2 ^ 64)) in
     let high = floor_gap_high (over z d) (whole f) one unit
-      (le_trans (le_of_equal (sym product)) (le_of_lt (lt_next (z *ℤ pos (2 ^ 64)) d some)))
-          (inverse (2 ^ 64) (omega arith)) (natural 1 (2 ^ 64)) in
+    (le_trans (le_of_equal (sym product)) (le_of_lt (lt_next (z *ℤ pos (2 ^ 64)) d some)))
+    (inverse (2 ^ 64) (omega arith)) (natural 1 (2 ^ 64)) in
     rw stored (size_le_of_between
-      (linear (over z d ∷ whole f ∷ unit ∷ []) (low ⊞ natural 1 (2 ^ 64)) (hlevel claims) refl) high)
+    (linear (over z d ∷ whole f ∷ unit ∷ []) (low ⊞ natural 1 (2 ^ 64)) (hlevel claims) refl) high)
 
 -- the number stored for the interest is within a unit
 pub interest_near : (p : FlatProduct) → pos 1 ≤ℤ p.den
     → size (opposite (cell_interest p) -ℚ over (floor_of (neg_ℤ p.interest *ℤ pos (2 ^ 64))
-        (pos (384 * nat_abs p.den))) (2 ^ 64)) ≤ℚ over (pos 1) (2 ^ 64)
+    (pos (384 * nat_abs p.den))) (2 ^ 64)) ≤ℚ over (pos 1) (2 ^ 64)
 interest_near p least =
     let some : 1 ≤ 384 * nat_abs p.den = some_cells p.den least in
     rw (← over-opposite p.interest (384 * nat_abs p.den))
-        (floor_near (neg_ℤ p.interest) (384 * nat_abs p.den) some)
+    (floor_near (neg_ℤ p.interest) (384 * nat_abs p.den) some)
   where
     some_cells : (d : ℤ) → pos 1 ≤ℤ d → 1 ≤ 384 * nat_abs d
     some_cells d least = omega (arith, ints)
@@ -63,11 +63,11 @@ interest_near p least =
 -- and that for the payment
 pub payment_near : (p : FlatProduct) (g : ℕ)
     → size (cell_payment p *ℚ scaling g -ℚ over (floor_of (p.rate *ℤ pos (2 ^ 64)) (pos (384 * 2 ^ g)))
-        (2 ^ 64)) ≤ℚ over (pos 3) (2 ^ 64)
+    (2 ^ 64)) ≤ℚ over (pos 3) (2 ^ 64)
 payment_near p g =
     let some : 1 ≤ 2 ^ g = omega (arith, pow_pos g) in
     let product : cell_payment p *ℚ scaling g ≡ over p.rate (384 * 2 ^ g) =
-      over_mul p.rate (pos 1) 384 (2 ^ g) (omega arith) some ∙ ap (λ z. over z (384 * 2 ^ g))
-          (times_one p.rate) in
+    over_mul p.rate (pos 1) 384 (2 ^ g) (omega arith) some ∙ ap (λ z. over z (384 * 2 ^ g))
+    (times_one p.rate) in
     rw product (le_trans (floor_near p.rate (384 * 2 ^ g) (omega (arith, some)))
-      (over_le_of_cross (pos 1) (pos 3) (2 ^ 64) (2 ^ 64) (omega arith) (omega arith) (omega (arith, ints))))
+    (over_le_of_cross (pos 1) (pos 3) (2 ^ 64) (2 ^ 64) (omega arith) (omega arith) (omega (arith, ints))))

@@ -17,7 +17,6 @@ use Rattle.linear_system.specs.StandsFor.{units, MatricesStandNear, VectorsStand
 use Rattle.product_reader.specs.FlatTree.{FlatProduct}
 use Rattle.thiele_cli.specs.FlatRun.{cell_interest, cell_payment}
 use Rattle.thiele_cli.specs.FlatSystem.{scaling, flat_system}
-
 use Rattle.thiele_cli.proofs.FlatNumbers.{interest_near, payment_near}
 
 -- the stored numbers of a system of dimension 1 and degree 0
@@ -40,20 +39,20 @@ stores_two made set both a f one none first second =
       first = free 0 0 0 ∙ first.numbers 0 0 0;
       free = free 0 1 0;
       no_more = λ m. free 0 0 (suc m) ∙ first.numbers 0 0 (suc m)
-        ∙ ap (λ here. cond here a (stored_number made 0 0 (suc m))) (eqb-suc-zero m) ∙ none 0 0 (suc m);
+          ∙ ap (λ here. cond here a (stored_number made 0 0 (suc m))) (eqb-suc-zero m) ∙ none 0 0 (suc m);
       no_more_free = λ m. free 0 1 (suc m)
-        ∙ ap (λ here. cond (nat_eq 0 0 && (nat_eq 1 1 && here)) f (stored_number set 0 1 (suc m)))
-            (eqb-suc-zero m)
-        ∙ first.numbers 0 1 (suc m) ∙ none 0 1 (suc m);
+          ∙ ap (λ here. cond (nat_eq 0 0 && (nat_eq 1 1 && here)) f (stored_number set 0 1 (suc m)))
+          (eqb-suc-zero m)
+          ∙ first.numbers 0 1 (suc m) ∙ none 0 1 (suc m);
     }
 
 -- nothing is as close as can be to nothing
 nothing_near : (error : ℕ) (z : ℤ) → z ≡ pos 0 → size (whole (pos 0) -ℚ units z) ≤ℚ units (pos error)
 nothing_near error z none =
     let zero_units : units z ≡ whole (pos 0) =
-      ap units none ∙ over_is (pos 0) (2 ^ 64) ∙ ring (over (pos 1) (2 ^ 64) ∷ []) (hlevel terms) refl in
+    ap units none ∙ over_is (pos 0) (2 ^ 64) ∙ ring (over (pos 1) (2 ^ 64) ∷ []) (hlevel terms) refl in
     let difference : whole (pos 0) -ℚ units z ≡ whole (pos 0) =
-      ap (λ x. whole (pos 0) -ℚ x) zero_units ∙ ring [] (hlevel terms) refl in
+    ap (λ x. whole (pos 0) -ℚ x) zero_units ∙ ring [] (hlevel terms) refl in
     le_trans (le_of_equal (ap size difference ∙ size_zero)) (natural error (2 ^ 64))
 
 matrices_near : (s : StoredSystem) (x : Fraction) (a f : ℤ) → StoresTwo s a f
@@ -73,13 +72,16 @@ matrices_near s x a f two near = record {
     close zero zero (suc m) row_in col_in = nothing_near 1 (stored_number s 0 0 (suc m)) (two.no_more m)
     close (suc row) col m row_in col_in = absurd (omega arith)
     close zero (suc col) m row_in col_in = absurd (omega arith)
+
     few_rows : (m : ℕ) → length (matrix_at (((x ∷ []) ∷ []) ∷ []) m) ≤ 1
     few_rows zero = omega arith
     few_rows (suc m) = omega arith
+
     few_columns : (m row : ℕ) → length (vector_at (matrix_at (((x ∷ []) ∷ []) ∷ []) m) row) ≤ 1
     few_columns zero zero = omega arith
     few_columns zero (suc row) = omega arith
     few_columns (suc m) row = omega arith
+
     none : (row col m : ℕ) → 12 ≤ m → number_at (vector_at (matrix_at (((x ∷ []) ∷ []) ∷ []) m) row) col ≡
         whole (pos 0)
     none row col zero past = absurd (omega arith)
@@ -99,9 +101,11 @@ vectors_near s x a f two near = record {
     close zero zero row_in = rw (two.dim, two.free) near
     close zero (suc m) row_in = nothing_near 3 (stored_free s 0 (suc m)) (rw two.dim (two.no_more_free m))
     close (suc row) m row_in = absurd (omega arith)
+
     few_rows : (m : ℕ) → length (vector_at ((x ∷ []) ∷ []) m) ≤ 1
     few_rows zero = omega arith
     few_rows (suc m) = omega arith
+
     none : (row m : ℕ) → 12 ≤ m → number_at (vector_at ((x ∷ []) ∷ []) m) row ≡ whole (pos 0)
     none row zero past = absurd (omega arith)
     none row (suc m) past = refl
@@ -111,7 +115,7 @@ pub stands_for : (p : FlatProduct) (g : ℕ) (made set both : StoredSystem) (a f
     → IsMadeFor 1 0 [] made → HasNoNumbers made
     → SetsOnly made set 0 0 0 a → SetsOnly set both 0 (dim_of set) 0 f
     → a ≡ floor_of (neg_ℤ p.interest *ℤ pos (2 ^ 64)) (pos (384 * nat_abs p.den))
-        → f ≡ floor_of (p.rate *ℤ pos (2 ^ 64)) (pos (384 * 2 ^ g))
+    → f ≡ floor_of (p.rate *ℤ pos (2 ^ 64)) (pos (384 * 2 ^ g))
     → StandsFor both (flat_system p g)
 stands_for p g made set both a f some is_made none first second is_interest is_payment =
     let two = stores_two made set both a f is_made.dim_is none first second in

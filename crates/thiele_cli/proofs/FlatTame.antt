@@ -45,7 +45,7 @@ weighted_norm-flat : (i : Fraction) → whole (pos 0) ≤ℚ i
     → weighted_norm Sup (((opposite i ∷ []) ∷ []) ∷ []) ≡ i
 weighted_norm-flat i some =
     ap (λ x. whole (pos 0) +ℚ whole (pos 1) *ℚ x) (norm-single_matrix (opposite i) ∙ size-opposite i ∙
-        size_of_natural some)
+    size_of_natural some)
     ∙ ring (i ∷ []) (hlevel terms) refl
 
 weighted_norm_of_vectors-flat : (x : Fraction) → weighted_norm_of_vectors Sup ((x ∷ []) ∷ []) ≡ size x
@@ -54,11 +54,15 @@ weighted_norm_of_vectors-flat x =
 
 -- the cell keeps 1 - i of a start to first order
 one_factor_norm-flat : (i b : Fraction) → whole (pos 0) ≤ℚ i → i ≤ℚ over (pos 1) 1536
-    → one_factor_norm Sup (record { dimension = 1; matrices = ((opposite i ∷ []) ∷ []) ∷ []; free =
-        (b ∷ []) ∷ [] }) ≡ whole (pos 1) -ℚ i
+    → one_factor_norm Sup (record {
+      dimension = 1;
+      matrices = ((opposite i ∷ []) ∷ []) ∷ [];
+      free =
+          (b ∷ []) ∷ [];
+    }) ≡ whole (pos 1) -ℚ i
 one_factor_norm-flat i b some small =
     let entry : whole (pos 1) +ℚ over (pos 1) 1 *ℚ opposite i ≡ whole (pos 1) -ℚ i =
-        ring (i ∷ []) (hlevel terms) refl in
+    ring (i ∷ []) (hlevel terms) refl in
     norm-single_matrix (whole (pos 1) +ℚ over (pos 1) 1 *ℚ opposite i)
     ∙ ap size entry
     ∙ size_of_natural (linear (i ∷ []) small (hlevel claims) refl)
@@ -69,9 +73,9 @@ growth-flat : (i : Fraction) (kappa40 : ℕ) → whole (pos 0) ≤ℚ i → i �
 growth-flat i kappa40 some small =
     let grows = natural kappa40 (2 ^ 40) in
     linear (i ∷ growth_of kappa40 ∷ [])
-      ((some ⊠ small) ⊠ natural 3 1 ⊞ some ⊠ natural 3069 1536 ⊞ (small ⊠ grows) ⊠ natural 2 1 ⊞ grows ⊠
-          natural 3070 1536)
-      (hlevel claims) refl
+    ((some ⊠ small) ⊠ natural 3 1 ⊞ some ⊠ natural 3069 1536 ⊞ (small ⊠ grows) ⊠ natural 2 1 ⊞ grows ⊠
+    natural 3070 1536)
+    (hlevel claims) refl
 
 pub flat_system_tame : (p : FlatProduct) (g kappa40 : ℕ) → HasRanges p → nat_abs p.rate ≤ 6 * 2 ^ g
     → IsTame Sup kappa40 (flat_system p g)
@@ -85,6 +89,6 @@ flat_system_tame p g kappa40 ranges most =
       matrices = rw (weighted_norm-flat (cell_interest p) some)
           (linear (cell_interest p ∷ []) small (hlevel claims) refl);
       free = rw (weighted_norm_of_vectors-flat (cell_payment p *ℚ scaling g))
-        (linear (size (cell_payment p *ℚ scaling g) ∷ []) (payment_small p g most) (hlevel claims) refl);
+          (linear (size (cell_payment p *ℚ scaling g) ∷ []) (payment_small p g most) (hlevel claims) refl);
       growth = rw (total, factor) (growth-flat (cell_interest p) kappa40 some small);
     }

@@ -30,24 +30,24 @@ coefficients-flat : (p : FlatProduct) (g : ℕ) (end : Fraction) (k : ℕ)
 coefficients-flat p g end zero = refl
 coefficients-flat p g end (suc zero) =
     ap (λ x. (x ∷ []) ∷ ((end *ℚ scaling g) ∷ []) ∷ [])
-        (with_payment (over (pos 1) 1) (cell_interest p) end (cell_payment p) (scaling g))
+    (with_payment (over (pos 1) 1) (cell_interest p) end (cell_payment p) (scaling g))
 coefficients-flat p g end (suc (suc k)) =
     ap (λ earlier. scale_list (over (pos 1) (suc (suc k)))
-        (add_lists (sum_of_images ((((opposite (cell_interest p)) ∷ []) ∷ []) ∷ []) earlier) []) ∷ earlier)
-      (coefficients-flat p g end (suc k))
-      ∙ ap (λ x. (x ∷ []) ∷ scaled p g end (suc k))
-          (without_payment (over (pos 1) (suc (suc k))) (cell_interest p) (coefficient p end (suc k))
-          (scaling g))
+    (add_lists (sum_of_images ((((opposite (cell_interest p)) ∷ []) ∷ []) ∷ []) earlier) []) ∷ earlier)
+    (coefficients-flat p g end (suc k))
+    ∙ ap (λ x. (x ∷ []) ∷ scaled p g end (suc k))
+    (without_payment (over (pos 1) (suc (suc k))) (cell_interest p) (coefficient p end (suc k))
+    (scaling g))
 
 sum-scaled : (p : FlatProduct) (g : ℕ) (end : Fraction) (n : ℕ)
     → sum_of_vectors (scaled p g end n) ≡ (flat.taylor_value p end n *ℚ scaling g) ∷ []
 sum-scaled p g end zero = ap (λ x. x ∷ []) (ring (end ∷ scaling g ∷ []) (hlevel terms) refl)
 sum-scaled p g end (suc n) =
     ap (λ rest. add_lists ((coefficient p end (suc n) *ℚ scaling g) ∷ []) rest) (sum-scaled p g end n)
-      ∙ ap (λ x. x ∷ []) (ring (coefficient p end (suc n) ∷ flat.taylor_value p end n ∷ scaling g ∷ [])
-          (hlevel terms) refl)
+    ∙ ap (λ x. x ∷ []) (ring (coefficient p end (suc n) ∷ flat.taylor_value p end n ∷ scaling g ∷ [])
+    (hlevel terms) refl)
 
 pub runs_are_taylor_values : RunsAreTaylorValues
 runs_are_taylor_values p g n cells =
     sym (ap sum_of_vectors (coefficients-flat p g (value_before_term p n cells) n) ∙ sum-scaled p g
-        (value_before_term p n cells) n)
+    (value_before_term p n cells) n)

@@ -30,14 +30,19 @@ div_ceil_mono n m d some order = div_ceil_most n d (div_ceil m d) some
 -- the growth of a ledger keeps its order
 pub grow_mono : (w v kappa add more : ℕ) → w ≤ v → add ≤ more → grow w kappa add ≤ grow v kappa more
 grow_mono w v kappa add more order adds =
-    omega (arith, order, adds, div_ceil_mono (w * kappa) (v * kappa) (2 ^ 40) (omega arith)
-        (mul-le-mul_right kappa order))
+    omega (
+      arith,
+      order,
+      adds,
+      div_ceil_mono (w * kappa) (v * kappa) (2 ^ 40) (omega arith)
+          (mul-le-mul_right kappa order),
+    )
 
 pub phi40_most : (i d : ℤ) → pos 1 ≤ℤ d → pos 0 ≤ℤ i → (pos 4 *ℤ i) ≤ℤ d
     → div_ceil (2 ^ 40 * (6 * nat_abs i)) (768 * nat_abs d) ≤ 2 ^ 31
 phi40_most i d some least most =
     div_ceil_most (2 ^ 40 * (6 * nat_abs i)) (768 * nat_abs d) (2 ^ 31) (omega (arith, ints))
-        (omega (arith, ints))
+    (omega (arith, ints))
 
 below_nothing : (i d : ℤ) → pos 1 ≤ℤ d → pos 0 ≤ℤ i
     → div_ceil (2 ^ 40 * size_below_zero i) (192 * nat_abs d) ≤ 0
@@ -63,7 +68,7 @@ pub square_quotient : (phi : ℕ) → phi ≤ 2 ^ 31 → div_ceil (9 * phi * phi
 square_quotient phi most =
     let product : phi * phi ≤ 2 ^ 31 * 2 ^ 31 = mul-le phi phi (2 ^ 31) (2 ^ 31) most most in
     div_ceil_most (9 * phi * phi) (2 ^ 44) (2 ^ 22) (omega arith)
-        (omega (arith, mul_assoc 9 phi phi, product))
+    (omega (arith, mul_assoc 9 phi phi, product))
 
 -- the growth of a cell, where the interest is not negative
 pub growth_is : (phi : ℕ) (p : FlatProduct) → phi ≡ phi40 p → pos 1 ≤ℤ p.den → pos 0 ≤ℤ p.interest
@@ -71,9 +76,9 @@ pub growth_is : (phi : ℕ) (p : FlatProduct) → phi ≡ phi40 p → pos 1 ≤�
 growth_is phi p is_phi some least =
     let product : 9 * phi * phi ≡ 9 * phi ^ 2 = mul_assoc 9 phi phi ∙ ap (λ y. 9 * y) (sym (square phi)) in
     with_nothing (div_ceil (9 * phi * phi) (2 ^ 44)) (div_ceil (9 * phi40 p ^ 2) (2 ^ 44))
-        (div_ceil (2 ^ 40 * size_below_zero p.interest) (192 * nat_abs p.den))
-      (ap (λ y. div_ceil y (2 ^ 44)) product ∙ ap (λ y. div_ceil (9 * y ^ 2) (2 ^ 44)) is_phi)
-          (below_nothing p.interest p.den some least)
+    (div_ceil (2 ^ 40 * size_below_zero p.interest) (192 * nat_abs p.den))
+    (ap (λ y. div_ceil y (2 ^ 44)) product ∙ ap (λ y. div_ceil (9 * y ^ 2) (2 ^ 44)) is_phi)
+    (below_nothing p.interest p.den some least)
   where
     with_nothing : (a b c : ℕ) → a ≡ b → c ≤ 0 → a ≡ b + c
     with_nothing a b c same none = omega (arith, same, none)
@@ -82,10 +87,10 @@ growth_is phi p is_phi some least =
 pub kappa40_most : (p : FlatProduct) → HasRanges p → kappa40 p ≤ 2 ^ 22
 kappa40_most p ranges =
     sum_most (div_ceil (9 * phi40 p ^ 2) (2 ^ 44)) (div_ceil (2 ^ 40 * size_below_zero p.interest)
-        (192 * nat_abs p.den)) (2 ^ 22)
-      (square_most (phi40 p) (phi40_most p.interest p.den ranges.least_den ranges.least_interest
-          ranges.most_interest))
-      (below_nothing p.interest p.den ranges.least_den ranges.least_interest)
+    (192 * nat_abs p.den)) (2 ^ 22)
+    (square_most (phi40 p) (phi40_most p.interest p.den ranges.least_den ranges.least_interest
+    ranges.most_interest))
+    (below_nothing p.interest p.den ranges.least_den ranges.least_interest)
   where
     sum_most : (a b m : ℕ) → a ≤ m → b ≤ 0 → a + b ≤ m
     sum_most a b m first second = omega (arith, first, second)
@@ -98,7 +103,7 @@ pay1024_most rate most = div_ceil_most (1024 * nat_abs rate) 192 (2 ^ 43) (omega
 growth_most : (w kappa most : ℕ) → kappa ≤ 2 ^ 22 → w ≤ most * 2 ^ 18 → div_ceil (w * kappa) (2 ^ 40) ≤ most
 growth_most w kappa most small order =
     div_ceil_most (w * kappa) (2 ^ 40) most (omega arith)
-        (omega (arith, mul-le w kappa (most * 2 ^ 18) (2 ^ 22) order small))
+    (omega (arith, mul-le w kappa (most * 2 ^ 18) (2 ^ 22) order small))
 
 -- with at most `add` in each cell, half of it growth
 pub ledger_after_most : (kappa pay cells most : ℕ) → kappa ≤ 2 ^ 22 → cells ≤ 38400 → 1 ≤ most → pay ≤ most
@@ -107,7 +112,7 @@ ledger_after_most kappa pay zero most small few some pays = omega arith
 ledger_after_most kappa pay (suc cells) most small few some pays =
     let before = ledger_after_most kappa pay cells most small (omega arith) some pays in
     let factor : 2 * most * cells ≤ 2 * most * 2 ^ 17 =
-        mul-le (2 * most) cells (2 * most) (2 ^ 17) (omega arith) (omega (arith, few)) in
+    mul-le (2 * most) cells (2 * most) (2 ^ 17) (omega arith) (omega (arith, few)) in
     let grows = growth_most (ledger_after kappa pay cells) kappa most small (omega (arith, before, factor)) in
     let next : 2 * most * suc cells ≡ 2 * most * cells + 2 * most = grind arith in
     omega (arith, before, grows, pays, next)
@@ -119,7 +124,7 @@ ledger_after_mono kappa pay zero more order = omega arith
 ledger_after_mono kappa pay (suc cells) zero order = absurd (omega arith)
 ledger_after_mono kappa pay (suc cells) (suc more) order =
     grow_mono (ledger_after kappa pay cells) (ledger_after kappa pay more) kappa pay pay
-        (ledger_after_mono kappa pay cells more (omega arith)) (omega arith)
+    (ledger_after_mono kappa pay cells more (omega arith)) (omega arith)
 
 -- each cell adds its payment
 pub ledger_after_least : (kappa pay cells : ℕ) → cells * pay ≤ ledger_after kappa pay cells
@@ -150,5 +155,5 @@ rate_most rate size pay cells bound g pays some adds enough =
 pub rate_within_scale : (p : FlatProduct) → HasRanges p → nat_abs p.rate ≤ 6 * 2 ^ scale p
 rate_within_scale p ranges =
     rate_most 0 (nat_abs p.rate) (pay1024 p) (cells_of p) (bound1024 p) (2 ^ scale p)
-        (div_ceil_times (1024 * nat_abs p.rate) 192 (omega arith)).0
-      (cells_least p ranges) (ledger_after_least (kappa40 p) (pay1024 p) (cells_of p)) (bound_within_scale p)
+    (div_ceil_times (1024 * nat_abs p.rate) 192 (omega arith)).0
+    (cells_least p ranges) (ledger_after_least (kappa40 p) (pay1024 p) (cells_of p)) (bound_within_scale p)

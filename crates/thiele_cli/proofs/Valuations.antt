@@ -19,7 +19,7 @@ pub row_is_right : (p : FlatProduct) (row : Row) (g w : ℕ) (mid : ℤ) → g �
     → AreEnds mid w g row.lo row.hi → IsValueRow p 24 row
 row_is_right p row g w mid is_scale is_radius held month state is_value ends =
     let tolerances : tolerance_first w g ≡ tolerance p =
-        ap (λ v. tolerance_first v g) is_radius ∙ ap (λ v. tolerance_first (radius p) v) is_scale in
+    ap (λ v. tolerance_first v g) is_radius ∙ ap (λ v. tolerance_first (radius p) v) is_scale in
     record {
       month = month;
       state = state;
@@ -33,10 +33,10 @@ row_is_right p row g w mid is_scale is_radius held month state is_value ends =
 pub report_is_right : (p : FlatProduct) (r : Report) (row : Row) (g w : ℕ) → g ≡ scale p → w ≡ radius p
     → r.kind ≡ kind.Value
     → r.degree ≡ 24 → r.scale ≡ g → r.tolerance.items ≡ tolerance_first w g ∷ [] → r.rows.items ≡ row ∷ []
-        → IsValueRow p 24 row → IsValueReport p r
+    → IsValueRow p 24 row → IsValueReport p r
 report_is_right p r row g w is_scale is_radius is_kind degree r_scale r_tolerance r_rows right =
     let tolerances : tolerance_first w g ≡ tolerance p =
-        ap (λ v. tolerance_first v g) is_radius ∙ ap (λ v. tolerance_first (radius p) v) is_scale in
+    ap (λ v. tolerance_first v g) is_radius ∙ ap (λ v. tolerance_first (radius p) v) is_scale in
     record {
       is_value = is_kind;
       least_degree = omega (arith, degree);

@@ -142,7 +142,10 @@ fn values_are_enclosed_within_their_tolerances(rt: HostRuntime) -> Result<(), Fa
         assert_eq!(rt; report.scale, scale, "{name}");
         let row = &report.rows[0];
         assert!(rt; row.lo <= below && above <= row.hi, "{name}");
-        assert!(rt; report.tolerance.as_slice() == [tolerance].as_slice(), "{name}");
+        assert!(rt;
+            report.tolerance.as_slice() == [tolerance].as_slice(),
+            "{name}"
+        );
     }
     Ok(())
 }

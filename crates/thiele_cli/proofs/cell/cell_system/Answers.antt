@@ -18,6 +18,6 @@ returns c =
     let first = simp to_z-of_z at c.set.ensures in
     let second = simp to_z-of_z at c.set_free.ensures in
     stands_for (product_of c.args.flat.now) c.args.scale _ _ _ c.interest_number.result
-        c.payment_number.result
-      c.requires.ranges.least_den c.in_ok-system.ensures.made c.in_ok-system.ensures.zero first second taken
-          paid
+    c.payment_number.result
+    c.requires.ranges.least_den c.in_ok-system.ensures.made c.in_ok-system.ensures.zero first second taken
+    paid

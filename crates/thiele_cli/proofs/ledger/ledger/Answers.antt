@@ -7,14 +7,14 @@ pub loop-cell-preserved : goal.loop-cell-preserved
 loop-cell-preserved c =
     let few : c.loop-cell._cell + 1 ≤ 38400 = omega (arith, c.requires.cells) in
     let most = ledger_after_most c.args.kappa40 c.args.add (c.loop-cell._cell + 1) (2 ^ 43) c.requires.growth
-        few (omega arith) c.requires.add in
+    few (omega arith) c.requires.add in
     let value : c.grow-ledger.result ≡ ledger_after c.args.kappa40 c.args.add (c.loop-cell._cell + 1) =
-        search rules in
+    search rules in
     record { value = value; size = omega (arith, value, most) }
 
 pub returns-clause-radius : goal.returns-clause-radius
 returns-clause-radius c = λ small.
     let few : c.loop-cell._cell ≤ 38400 = omega (arith, c.requires.cells) in
     let most = ledger_after_most c.args.kappa40 c.args.add c.loop-cell._cell 1024 c.requires.growth few
-        (omega arith) small in
+    (omega arith) small in
     omega (arith, most, few, c.loop-cell.invariant.value)

@@ -3,5 +3,8 @@ use Rattle.thiele_cli.specs.FlatLedger.{ledger_after}
 use Rattle.thiele_cli.proofs.ledger.ledger.Given as goal
 
 abbrev pub invariant-loop-cell : goal.invariant-loop-cell
-invariant-loop-cell l = record { value : l.ledger ≡ ledger_after l.kappa40 l.add l._cell; size : l.ledger ≤ 2
-    ^ 60 }
+invariant-loop-cell l = record {
+  value : l.ledger ≡ ledger_after l.kappa40 l.add l._cell;
+  size : l.ledger ≤ 2
+      ^ 60;
+}

@@ -27,18 +27,22 @@ step-requires-clause-mid g c = c.loop-cell.invariant.one ∙ c.requires.system.d
 pub step-requires-clause-can : goal.step-requires-clause-can
 step-requires-clause-can g c =
     can_step (product_of c.args.flat.now) _ c.loop-cell._cell c.args.system.now _ c.requires.ranges refl
-      (omega (arith, c.loop-cell-test.true)) c.requires.system c.loop-cell.invariant.one
-          c.loop-cell.invariant.held
+    (omega (arith, c.loop-cell-test.true)) c.requires.system c.loop-cell.invariant.one
+    c.loop-cell.invariant.held
 
 pub step-requires-clause-count : goal.step-requires-clause-count
-step-requires-clause-count g c = omega (arith, c.loop-cell.invariant.count, c.loop-cell-test.true,
-    c.requires.ranges.most_months)
+step-requires-clause-count g c = omega (
+  arith,
+  c.loop-cell.invariant.count,
+  c.loop-cell-test.true,
+  c.requires.ranges.most_months,
+)
 
 pub loop-cell-preserved : goal.loop-cell-preserved
 loop-cell-preserved g c =
     let p = product_of c.args.flat.now in
     let tame = flat_system_tame p (scale p) (kappa40 p) c.requires.ranges
-        (rate_within_scale p c.requires.ranges) in
+    (rate_within_scale p c.requires.ranges) in
     let promise = c.step.ensures.sup (flat_system p (scale p)) (kappa40 p) c.requires.system tame in
     let one = c.step.auto.mid ∙ c.loop-cell.invariant.one in
     record {
@@ -48,17 +52,17 @@ loop-cell-preserved g c =
       held = stepped p (scale p) c.loop-cell._cell _ c.step.result c.loop-cell.mid c.step.new.mid
           c.requires.ranges refl
           c.loop-cell-test.true (omega arith) c.step.ensures.degree c.loop-cell.invariant.one one promise
-              c.loop-cell.invariant.held;
+          c.loop-cell.invariant.held;
     }
 
 pub returns-clause-held : goal.returns-clause-held
 returns-clause-held g c =
     let done : c.loop-cell._cell ≡ cells_of (product_of c.args.flat.now) =
-        omega (arith, c.loop-cell-test.false, c.loop-cell.auto) in
+    omega (arith, c.loop-cell-test.false, c.loop-cell.auto) in
     rw done at c.loop-cell.invariant.held
 
 pub returns-clause-size : goal.returns-clause-size
 returns-clause-size g c =
     let few : c.loop-cell._cell ≤ cells_of (product_of c.args.flat.now) = omega (arith, c.loop-cell.auto) in
     swept_most (product_of c.args.flat.now) _ c.loop-cell._cell _ c.requires.ranges refl few
-        c.loop-cell.invariant.held
+    c.loop-cell.invariant.held

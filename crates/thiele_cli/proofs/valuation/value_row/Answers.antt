@@ -14,6 +14,6 @@ returns g c =
     let low = simp to_z-of_z at c.lower_end.ensures in
     let high = simp to_z-of_z at c.upper_end.ensures in
     simp to_z-of_z
-      (row_is_right (product_of c.args.flat.now) _ c.args.ledgers.now.scale c.args.ledgers.now.radius
-          c.in_ok-mid.mid c.requires.scale c.requires.radius
-        c.in_ok-mid.ensures.held refl refl refl (record { low = low; high = high }))
+    (row_is_right (product_of c.args.flat.now) _ c.args.ledgers.now.scale c.args.ledgers.now.radius
+    c.in_ok-mid.mid c.requires.scale c.requires.radius
+    c.in_ok-mid.ensures.held refl refl refl (record { low = low; high = high }))
