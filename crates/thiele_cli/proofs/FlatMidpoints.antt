@@ -15,6 +15,8 @@ use Rattle.frac_laws.proofs.Sizes.{le_of_size_le, opposite_le_of_size_le}
 use Rattle.frac_laws.proofs.Norms.{size_zero}
 use Rattle.cell_laws.specs.Systems.{System, taylor_value}
 use Rattle.cell_laws.specs.ErrorLaws.{distance}
+use Rattle.step_laws.specs.StepLaws.{IsStartNear}
+use Rattle.taylor_step.specs.Enclosures.{Encloses}
 use Rattle.product_reader.specs.FlatTree.{FlatProduct}
 use Rattle.thiele_cli.specs.FlatRun.{value_before_term, cells_of}
 use Rattle.thiele_cli.specs.FlatLedger.{kappa40, ledger_after, scale}
@@ -25,26 +27,13 @@ use Rattle.thiele_cli.proofs.FlatTaylor.{runs_are_taylor_values}
 use Rattle.thiele_cli.proofs.FlatMoments.{scaled_value, distance-single, values_within_scale}
 use Rattle.thiele_cli.proofs.LedgerSizes.{grow_mono, kappa40_most, ledger_after_most, cells_most}
 
--- what a step promises of a system of one number: every start of norm at most 2 within a radius of the old
--- number has
--- its Taylor values, from degree 24 on, within the grown radius of the new one
-abbrev pub StepEncloses : System → ℕ → ℤ → ℤ → Type 0
-StepEncloses e kappa old new =
-    (y : Vector) (rad n : ℕ) → length y ≤ e.dimension → norm_of_vector Sup y ≤ℚ whole (pos 2) → rad ≤ 2 ^ 45
-    → distance Sup y (over old (2 ^ 64) ∷ []) ≤ℚ over (pos rad) (2 ^ 64) → 24 ≤ n
-    → distance Sup (taylor_value e y n) (over new (2 ^ 64) ∷ []) ≤ℚ over (pos (grow rad kappa 1023)) (2 ^ 64)
-
 -- the radius up to the cells of the term
 pub radius_most : (p : FlatProduct) (cells : ℕ) → HasRanges p → cells ≤ cells_of p
     → ledger_after (kappa40 p) 1024 cells ≤ 2 ^ 27
 radius_most p cells ranges few =
     let within : cells ≤ 38400 = omega (arith, few, cells_most p ranges) in
-    omega (
-      arith,
-      within,
-      ledger_after_most (kappa40 p) 1024 cells 1024 (kappa40_most p ranges) within
-          (omega arith) (omega arith),
-    )
+    omega (arith, within, ledger_after_most (kappa40 p) 1024 cells 1024 (kappa40_most p ranges) within
+        (omega arith) (omega arith))
 
 nothing_over : (d : ℕ) → over (pos 0) d ≡ whole (pos 0)
 nothing_over d = over_is (pos 0) d ∙ ring (over (pos 1) d ∷ []) (hlevel terms) refl
@@ -53,33 +42,39 @@ nothing_over d = over_is (pos 0) d ∙ ring (over (pos 1) d ∷ []) (hlevel term
 pub midpoint_at_term : (p : FlatProduct) (g : ℕ) → IsMidpoint p g 0 (pos 0) 0
 midpoint_at_term p g n from =
     let difference : whole (pos 0) *ℚ scaling g -ℚ over (pos 0) (2 ^ 64) ≡ whole (pos 0) =
-    ap (λ x. whole (pos 0) *ℚ scaling g -ℚ x) (nothing_over (2 ^ 64)) ∙ ring (scaling g ∷ []) (hlevel terms)
-    refl in
+      ap (λ x. whole (pos 0) *ℚ scaling g -ℚ x) (nothing_over (2 ^ 64)) ∙ ring (scaling g ∷ []) (hlevel terms)
+          refl in
     le_of_equal (distance-single (whole (pos 0) *ℚ scaling g) (over (pos 0) (2 ^ 64)) ∙ ap size difference ∙
-    size_zero ∙ sym (nothing_over (2 ^ 64)))
+        size_zero ∙ sym (nothing_over (2 ^ 64)))
 
 -- a step keeps it
 pub midpoint_before_cell : (p : FlatProduct) (cells : ℕ) (old new : ℤ) → HasRanges p → cells < cells_of p
     → IsMidpoint p (scale p) cells old (ledger_after (kappa40 p) 1024 cells)
-    → StepEncloses (flat_system p (scale p)) (kappa40 p) old new
+        → Encloses Sup (flat_system p (scale p)) (kappa40 p) (old ∷ []) (new ∷ []) 24
     → IsMidpoint p (scale p) (suc cells) new (ledger_after (kappa40 p) 1024 (suc cells))
 midpoint_before_cell p cells old new ranges few before step n from =
     let g = scale p in
     let radius = ledger_after (kappa40 p) 1024 cells in
     let small : norm_of_vector Sup (scaled_run p g n cells) ≤ℚ whole (pos 2) =
-    le_trans (le_of_equal (norm-single (scaled_value p g n cells)))
-    (linear (size (scaled_value p g n cells) ∷ [])
-    (values_within_scale p n cells ranges (omega (arith, from)) (omega (arith, few))) (hlevel claims)
-    refl) in
-    let after = step (scaled_run p g n cells) radius n (omega arith) small
-    (omega (arith, radius_most p cells ranges (omega (arith, few)))) (before n from) from in
+      le_trans (le_of_equal (norm-single (scaled_value p g n cells)))
+        (linear (size (scaled_value p g n cells) ∷ [])
+            (values_within_scale p n cells ranges (omega (arith, from)) (omega (arith, few))) (hlevel claims)
+            refl) in
+    let start : IsStartNear Sup 1 (whole (pos 2)) radius (scaled_run p g n cells) (over old (2 ^ 64) ∷ []) =
+        record {
+      fits = omega arith;
+      small = small;
+      near = before n from;
+      radius = omega (arith, radius_most p cells ranges (omega (arith, few)));
+    } in
+    let after = step (scaled_run p g n cells) radius n start from in
     let more : grow radius (kappa40 p) 1023 ≤ grow radius (kappa40 p) 1024 =
-    grow_mono radius radius (kappa40 p) 1023 1024 (omega arith) (omega arith) in
+        grow_mono radius radius (kappa40 p) 1023 1024 (omega arith) (omega arith) in
     let units : over (pos (grow radius (kappa40 p) 1023)) (2 ^ 64) ≤ℚ over
-    (pos (grow radius (kappa40 p) 1024)) (2 ^ 64) =
-    units_mono (grow radius (kappa40 p) 1023) (grow radius (kappa40 p) 1024) more in
+        (pos (grow radius (kappa40 p) 1024)) (2 ^ 64) =
+      units_mono (grow radius (kappa40 p) 1023) (grow radius (kappa40 p) 1024) more in
     le_trans (le_of_equal (ap (λ v. distance Sup v (over new (2 ^ 64) ∷ []))
-    (runs_are_taylor_values p g n cells))) (le_trans after units)
+        (runs_are_taylor_values p g n cells))) (le_trans after units)
   where
     units_mono : (w v : ℕ) → w ≤ v → over (pos w) (2 ^ 64) ≤ℚ over (pos v) (2 ^ 64)
     units_mono w v order = over_le_of_cross (pos w) (pos v) (2 ^ 64) (2 ^ 64) (omega arith) (omega arith)
@@ -101,11 +96,11 @@ midpoint_most p cells radius mid ranges few small held =
     let value = scaled_value p (scale p) 24 cells in
     let within = values_within_scale p 24 cells ranges (omega arith) few in
     let far : size (value -ℚ over mid (2 ^ 64)) ≤ℚ whole (pos 1) =
-    le_trans (le_of_equal (sym (distance-single value (over mid (2 ^ 64)))))
-    (le_trans (held 24 (omega arith)) (over_le_of_cross (pos radius) (pos 1) (2 ^ 64) 1 (omega arith)
-    (omega arith) (omega (arith, ints, small)))) in
+      le_trans (le_of_equal (sym (distance-single value (over mid (2 ^ 64)))))
+        (le_trans (held 24 (omega arith)) (over_le_of_cross (pos radius) (pos 1) (2 ^ 64) 1 (omega arith)
+            (omega arith) (omega (arith, ints, small)))) in
     units_within_two mid
-    (linear (value ∷ over mid (2 ^ 64) ∷ []) (opposite_le_of_size_le far ⊞ le_of_size_le within)
-    (hlevel claims) refl)
-    (linear (value ∷ over mid (2 ^ 64) ∷ []) (le_of_size_le far ⊞ opposite_le_of_size_le within)
-    (hlevel claims) refl)
+      (linear (value ∷ over mid (2 ^ 64) ∷ []) (opposite_le_of_size_le far ⊞ le_of_size_le within)
+          (hlevel claims) refl)
+      (linear (value ∷ over mid (2 ^ 64) ∷ []) (le_of_size_le far ⊞ opposite_le_of_size_le within)
+          (hlevel claims) refl)
