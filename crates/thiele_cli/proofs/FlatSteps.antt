@@ -21,18 +21,18 @@ pub swept_most : (p : FlatProduct) (g cells : ℕ) (mid : ℤ) → HasRanges p �
     → IsMidpoint p g cells mid (ledger_after (kappa40 p) 1024 cells) → unsigned_abs mid ≤ 2 ^ 65
 swept_most p g cells mid ranges is_scale few held =
     midpoint_most p cells (ledger_after (kappa40 p) 1024 cells) mid ranges few
-      (omega (arith, radius_most p cells ranges few)) (rw is_scale at held)
+    (omega (arith, radius_most p cells ranges few)) (rw is_scale at held)
 
 -- a step may be taken
 pub can_step : (p : FlatProduct) (g cells : ℕ) (s : StoredSystem) (mid : List ℤ) → HasRanges p → g ≡ scale p
     → cells ≤ cells_of p
     → StandsFor s (flat_system p g) → length mid ≡ 1
     → IsMidpoint p g cells (slice_index_or mid 0 (pos 0)) (ledger_after (kappa40 p) 1024 cells)
-        → CanStep s mid
+    → CanStep s mid
 can_step p g cells s [] ranges is_scale few stands one held = cc
 can_step p g cells s (x ∷ []) ranges is_scale few stands one held =
     in_sup (flat_system p g) (kappa40 p) stands (flat_system_tame p g (kappa40 p) ranges
-        (rw is_scale (rate_within_scale p ranges))) at_most
+    (rw is_scale (rate_within_scale p ranges))) at_most
   where
     at_most : AreAtMost (2 ^ 65) (x ∷ [])
     at_most zero = swept_most p g cells x ranges is_scale few held
@@ -55,5 +55,5 @@ stepped p g cells next degree (x ∷ []) (z ∷ y ∷ new) ranges is_scale few i
 stepped p g cells next degree (x ∷ []) (z ∷ []) ranges is_scale few is_next is_degree one one_new encloses
     held =
     let promise : Encloses Sup (flat_system p (scale p)) (kappa40 p) (x ∷ []) (z ∷ []) 24 =
-      rw (is_degree, is_scale) at encloses in
+    rw (is_degree, is_scale) at encloses in
     rw (is_next, is_scale) (midpoint_before_cell p cells x z ranges few (rw is_scale at held) promise)
