@@ -17,3 +17,4 @@ pub mod MonthCoefficients
 pub mod RingInstances
 pub mod RunInstances
 pub mod Scales
+pub mod RuleInstances

@@ -6,7 +6,8 @@ use mathlib.Core.Path.{ap₂}
 use mathlib.Core.Quot.{sound}
 use Rattle.frac_laws.specs.Fraction.{Fraction, whole, ◌+ℚ◌, ◌*ℚ◌, ◌-ℚ◌, ◌≤ℚ◌, opposite, is_not_negative}
 use Rattle.model_specs.specs.RunInstances.{IntensityInCells, ReserveOfLastCell, MomentOfLastCell}
-use Rattle.model_specs.specs.RunInstances.{ReserveByWholeMonth, OccupancyOfFirstCell, PatternPaysAtDates, PatternPaysRate}
+use Rattle.model_specs.specs.RunInstances.{ReserveByWholeMonth}
+use Rattle.model_specs.specs.RunInstances.{OccupancyOfFirstCell, PatternPaysAtDates, PatternPaysRate}
 use Rattle.model_specs.specs.RunInstances.{EndRowsHold, LowerOccupancyDoesNotHold}
 
 -- two lists of six numbers are one where the numbers are

@@ -22,3 +22,4 @@ pub mod Stretches
 pub mod Systems
 pub mod ValuationRules
 pub mod Whole
+pub mod RuleInstances
