@@ -1,0 +1,2 @@
+pub mod ControlLists
+pub mod PartBounds
