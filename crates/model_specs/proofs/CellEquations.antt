@@ -12,11 +12,13 @@ use Rattle.cell_laws.specs.Pairs.{second_coefficient}
 use Rattle.cell_laws.proofs.Recurrences.{coefficients_recur, second_coefficients_recur}
 use Rattle.model_specs.specs.Cells.{CellCurves}
 use Rattle.model_specs.specs.Systems.{interest_at, intensity_at, sojourn_rate_at, sum_paid_at, leaving_at}
-use Rattle.model_specs.specs.Systems.{first_payment_at, second_payment_at, backward_entry, coupling_entry, where_same}
+use Rattle.model_specs.specs.Systems.{first_payment_at, second_payment_at, backward_entry}
+use Rattle.model_specs.specs.Systems.{coupling_entry, where_same}
 use Rattle.model_specs.specs.Whole.{list_of}
 use Rattle.model_specs.specs.Systems.{matrix_of}
 use Rattle.model_specs.specs.Systems.{thiele_system, second_moment_system, norberg_pair, kolmogorov_system}
-use Rattle.model_specs.specs.Equations.{IsQuintic, ThieleSystemSolves, NorbergPairSolves, KolmogorovSystemSolves}
+use Rattle.model_specs.specs.Equations.{IsQuintic, ThieleSystemSolves, NorbergPairSolves}
+use Rattle.model_specs.specs.Equations.{KolmogorovSystemSolves}
 use Rattle.model_specs.proofs.CellTables.{image-table, number-table, row-diagonal, entry-zero, number_at-past}
 use Rattle.model_specs.proofs.CellTables.{convolution-past}
 
@@ -87,7 +89,8 @@ pub thiele_system_solves : ThieleSystemSolves
 thiele_system_solves cell start quintic k i within =
     coefficients_recur (thiele_system cell) start k i
     ∙ ap₂ (λ a b. a +ℚ b)
-    (sum_to_ext (suc k) (λ m b. backward-row cell 1 m i (coefficient (thiele_system cell) start (k - m)) quintic within
+    (sum_to_ext (suc k)
+    (λ m b. backward-row cell 1 m i (coefficient (thiele_system cell) start (k - m)) quintic within
     ∙ ap (λ x. opposite (x +ℚ leaving_at cell i m)
     *ℚ number_at (coefficient (thiele_system cell) start (k - m)) i
     +ℚ sum_to cell.states (λ j. intensity_at cell i j m
@@ -95,14 +98,17 @@ thiele_system_solves cell start quintic k i within =
     (ring (interest_at cell m ∷ []) (hlevel terms) refl)))
     (number-table cell.states 9
     (λ m i. sojourn_rate_at cell i m +ℚ sum_to cell.states (λ j. first_payment_at cell i j m)) k i within
-    (λ past. rw (sojourn-past cell i k quintic (omega arith),
-    sum_to_zeros cell.states (λ j b. first-past cell i j k quintic past)) (ring [] (hlevel terms) refl)))
+    (λ past. rw (
+      sojourn-past cell i k quintic (omega arith),
+      sum_to_zeros cell.states (λ j b. first-past cell i j k quintic past),
+    ) (ring [] (hlevel terms) refl)))
 
 pub kolmogorov_system_solves : KolmogorovSystemSolves
 kolmogorov_system_solves cell start quintic k j within =
     coefficients_recur (kolmogorov_system cell) start k j
     ∙ ap (λ a. a +ℚ whole (pos 0))
-    (sum_to_ext (suc k) (λ m b. forward-row cell m j (coefficient (kolmogorov_system cell) start (k - m)) quintic within))
+    (sum_to_ext (suc k)
+    (λ m b. forward-row cell m j (coefficient (kolmogorov_system cell) start (k - m)) quintic within))
     ∙ ring (sum_to (suc k) (λ m. sum_to cell.states (λ i. intensity_at cell i j m
     *ℚ number_at (coefficient (kolmogorov_system cell) start (k - m)) i)
     -ℚ leaving_at cell j m *ℚ number_at (coefficient (kolmogorov_system cell) start (k - m)) j) ∷ [])
@@ -117,9 +123,12 @@ norberg-power : (cell : CellCurves) (m i : ℕ) (z w : Vector) → IsQuintic cel
     +ℚ sum_to cell.states (λ j. intensity_at cell i j m *ℚ number_at z j
     +ℚ whole (pos 2) *ℚ first_payment_at cell i j m *ℚ number_at w j)
 norberg-power cell m i z w quintic within =
-    rw (backward-row cell 2 m i z quintic within, coupling-row cell m i w quintic within,
-    sum_to_add cell.states (λ j. intensity_at cell i j m *ℚ number_at z j)
-    (λ j. whole (pos 2) *ℚ first_payment_at cell i j m *ℚ number_at w j))
+    rw (
+      backward-row cell 2 m i z quintic within,
+      coupling-row cell m i w quintic within,
+      sum_to_add cell.states (λ j. intensity_at cell i j m *ℚ number_at z j)
+          (λ j. whole (pos 2) *ℚ first_payment_at cell i j m *ℚ number_at w j),
+    )
     (ring (interest_at cell m ∷ leaving_at cell i m ∷ number_at z i ∷ sojourn_rate_at cell i m ∷ number_at w i
     ∷ sum_to cell.states (λ j. intensity_at cell i j m *ℚ number_at z j)
     ∷ sum_to cell.states (λ j. whole (pos 2) *ℚ first_payment_at cell i j m *ℚ number_at w j) ∷ [])

@@ -1,6 +1,7 @@
 -- How long the lists of a cell's coefficients are.
 use Rattle.std.specs.Prelude.{◌≡◌, ℕ, zero, suc, ◌≤◌, ℤ, pos, Bool, true, false, cond, ◌==◌, nat_le}
-use Rattle.std.specs.Prelude.{Option, Some, None, All, filter, find, option_map, unwrap_or, List, [], ◌∷◌, length}
+use Rattle.std.specs.Prelude.{Option, Some, None, All, filter, find, option_map, unwrap_or, List, []}
+use Rattle.std.specs.Prelude.{◌∷◌, length}
 use Rattle.std.specs.Prelude.{slice_index_or, refl}
 use Rattle.std.proofs.Common.{ap, ◌∙◌, arith, lit≤}
 use Rattle.std.proofs.lemmas.List.Elements.{All-map}
@@ -10,7 +11,8 @@ use Rattle.frac_laws.proofs.Polynomials.{length-shifted, length-stretched}
 use Rattle.model_specs.specs.Whole.{last_or}
 use Rattle.model_specs.specs.Curve.{Piece, piece_at, zero_piece}
 use Rattle.model_specs.specs.Product.{Product, Step, no_transition, transition_at}
-use Rattle.model_specs.specs.Payments.{Plan, payment_plan, pattern_plan, constant_step, step_at, sojourn_at, sum_at}
+use Rattle.model_specs.specs.Payments.{Plan, payment_plan, pattern_plan, constant_step, step_at}
+use Rattle.model_specs.specs.Payments.{sojourn_at, sum_at}
 use Rattle.model_specs.specs.Payments.{continuous_pattern, dated_pattern}
 use Rattle.model_specs.specs.RecordRules.{IsWellFormed, IsPayment}
 use Rattle.model_specs.specs.Cells.{Grid, cell_polynomial, curve_cell, amount_cell, cell_curves}
@@ -69,15 +71,19 @@ curve-six : (grid : Grid) (den : ℕ) (pieces : List Piece) (month cell : ℕ) �
     → length (curve_cell grid den pieces month cell) ≤ 6
 curve-six grid den pieces month cell six =
     let short : length (piece_at pieces month).c ≡ 6 =
-        last-has (λ piece. length piece.c ≡ 6) (λ piece. nat_le piece.from month) pieces zero_piece refl six in
-    rw (length-scale_list _ (cell_polynomial grid (all_over den (piece_at pieces month).c) _ cell),
-    length-cell_polynomial grid den (piece_at pieces month).c _ cell, short) (lit≤ tt)
+    last-has (λ piece. length piece.c ≡ 6) (λ piece. nat_le piece.from month) pieces zero_piece refl six in
+    rw (
+      length-scale_list _ (cell_polynomial grid (all_over den (piece_at pieces month).c) _ cell),
+      length-cell_polynomial grid den (piece_at pieces month).c _ cell,
+      short,
+    ) (lit≤ tt)
 
 amount-four : (grid : Grid) (steps : List Step) (month months cell : ℕ) → HasFour steps
     → length (amount_cell grid (step_at steps month) months cell) ≤ 4
 amount-four grid steps month months cell four =
     let short : length (step_at steps month).c ≡ 4 =
-        last-has (λ step. length step.c ≡ 4) (λ step. nat_le step.from month) steps (constant_step 0 (pos 0)) refl four in
+    last-has (λ step. length step.c ≡ 4) (λ step. nat_le step.from month) steps
+    (constant_step 0 (pos 0)) refl four in
     rw (length-cell_polynomial grid 1 (step_at steps month).c _ cell, short) (lit≤ tt)
 
 -- what is given of the transition between two states, if there is one
@@ -114,7 +120,8 @@ plan-quintic grid product plan month cell formed four = record {
 
 payment-plan-four : (product : Product) → IsWellFormed product → HasFourEach (payment_plan product)
 payment-plan-four product formed = record {
-  sums = All-map HasFour (λ t. t.sum) product.transitions (λ k d b. given (slice_index_or product.transitions k d).sum
+  sums = All-map HasFour (λ t. t.sum) product.transitions
+      (λ k d b. given (slice_index_or product.transitions k d).sum
       (formed.payments.sums k d b));
   sojourns = λ k d b. (formed.payments.sojourns k d b).four;
 }
@@ -128,11 +135,13 @@ pattern-plan-four product =
     elim (product.pattern.every == 0) as (λ b. HasFourEach
     (cond b (continuous_pattern product.pattern) (dated_pattern product.pattern))) [
       | true ↦ record {
-          sums = nothing HasFour;
-          sojourns = All-map (λ s. HasFour s.steps) (λ i. record { state = i;
-            steps = constant_step 0 (pos 1) ∷ constant_step product.pattern.until (pos 0) ∷ [] })
-              product.pattern.payers (λ k d b. two);
-        }
+        sums = nothing HasFour;
+        sojourns = All-map (λ s. HasFour s.steps) (λ i. record {
+          state = i;
+          steps = constant_step 0 (pos 1) ∷ constant_step product.pattern.until (pos 0) ∷ [];
+        })
+            product.pattern.payers (λ k d b. two);
+      }
       | false ↦ record { sums = nothing HasFour; sojourns = nothing (λ s. HasFour s.steps) }
     ]
   where
@@ -142,6 +151,7 @@ pattern-plan-four product =
     two (suc (suc k)) d b = absurd (omega arith)
 
 pub cells_are_quintic : CellsAreQuintic
-cells_are_quintic grid product month cell formed =
-    (plan-quintic grid product (payment_plan product) month cell formed (payment-plan-four product formed),
-    plan-quintic grid product (pattern_plan product) month cell formed (pattern-plan-four product))
+cells_are_quintic grid product month cell formed = (
+  plan-quintic grid product (payment_plan product) month cell formed (payment-plan-four product formed),
+  plan-quintic grid product (pattern_plan product) month cell formed (pattern-plan-four product),
+)

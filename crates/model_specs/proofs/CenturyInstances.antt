@@ -15,9 +15,11 @@ century_scale : scale century_lump (payment_plan century_lump) ≡ 16
 century_scale = scale_between (bound1024 century_lump (payment_plan century_lump)) 15 (lit< tt) (lit≤ tt)
 
 pub century_scales : CenturyScales
-century_scales =
-    (century_scale, annuity_bound,
-    ap scale_of_bound annuity_bound ∙ scale_between 204800000000025600 47 (lit< tt) (lit≤ tt))
+century_scales = (
+  century_scale,
+  annuity_bound,
+  ap scale_of_bound annuity_bound ∙ scale_between 204800000000025600 47 (lit< tt) (lit≤ tt),
+)
 
 pub costs : Costs
 costs = (refl, refl)

@@ -1,9 +1,12 @@
 -- Rules 15 to 18 on products at the limits, computed.
-use Rattle.std.specs.Prelude.{◌≡◌, ℤ, pos, Option, Some, None, Bool, false, true, refl, [], ◌∷◌, if◌then◌else◌}
+use Rattle.std.specs.Prelude.{◌≡◌, ℤ, pos, Option, Some, None, Bool, false, true, refl, [], ◌∷◌}
+use Rattle.std.specs.Prelude.{if◌then◌else◌}
 use Rattle.std.proofs.Common.{ap, ◌∙◌}
 use Rattle.model_specs.specs.ValuationRules.{RuleBreak, first_given, first_broken, broken_at_last}
-use Rattle.model_specs.specs.ValuationRules.{broken_in_months, obeys_rule_15, obeys_rule_16, obeys_rule_17, obeys_rule_18}
-use Rattle.model_specs.specs.LedgerInstances.{LargestRates, LargestExchange, TooLargeExchange, FarTooLargeExchange}
+use Rattle.model_specs.specs.ValuationRules.{broken_in_months, obeys_rule_15, obeys_rule_16}
+use Rattle.model_specs.specs.ValuationRules.{obeys_rule_17, obeys_rule_18}
+use Rattle.model_specs.specs.LedgerInstances.{LargestRates, LargestExchange, TooLargeExchange}
+use Rattle.model_specs.specs.LedgerInstances.{FarTooLargeExchange}
 use Rattle.model_specs.specs.Examples.{exchange}
 
 pub largest_rates : LargestRates

@@ -11,7 +11,8 @@ use Rattle.cell_laws.specs.Systems.{System, coefficient, taylor_value}
 use Rattle.cell_laws.proofs.Runs.{times_part}
 use Rattle.cell_laws.proofs.Recurrences.{taylor_value_sums}
 use Rattle.model_specs.specs.Cells.{CellCurves}
-use Rattle.model_specs.specs.Systems.{interest_at, intensity_at, sojourn_rate_at, leaving_at, first_payment_at}
+use Rattle.model_specs.specs.Systems.{interest_at, intensity_at, sojourn_rate_at, leaving_at}
+use Rattle.model_specs.specs.Systems.{first_payment_at}
 use Rattle.model_specs.specs.Systems.{sum_paid_at, thiele_system}
 use Rattle.model_specs.specs.Equations.{IsQuintic}
 use Rattle.model_specs.specs.Runs.{month_back}
@@ -49,16 +50,21 @@ module _ (cell : CellCurves) (paid : Fraction) (flat : IsFlatCell cell paid) (st
   links-none : (m : ℕ) (v : ℕ → Fraction)
       → opposite (interest_at cell m +ℚ leaving_at cell 0 m) *ℚ v 0
       +ℚ sum_to cell.states (λ j. intensity_at cell 0 j m *ℚ v j) ≡ whole (pos 0)
-  links-none m v = rw (flat.interest m, leaving-none m,
-      sum_to_zeros cell.states {f = λ j. intensity_at cell 0 j m *ℚ v j}
-      (λ j b. rw (flat.intensity 0 j m) (ring (v j ∷ []) (hlevel terms) refl)))
+  links-none m v = rw (
+    flat.interest m,
+    leaving-none m,
+    sum_to_zeros cell.states {f = λ j. intensity_at cell 0 j m *ℚ v j}
+        (λ j b. rw (flat.intensity 0 j m) (ring (v j ∷ []) (hlevel terms) refl)),
+  )
       (ring (v 0 ∷ []) (hlevel terms) refl)
 
   next-is : (k : ℕ) → whole (pos (suc k)) *ℚ w (suc k) ≡ sojourn_rate_at cell 0 k
   next-is k = thiele_system_solves cell start flat.quintic k 0 flat.some
-      ∙ rw (sum_to_zeros (suc k) (λ m b. links-none m (λ j.
-      number_at (coefficient (thiele_system cell) start (k - m)) j)),
-      sum_to_zeros cell.states (λ j b. payment-none j k))
+      ∙ rw (
+        sum_to_zeros (suc k) (λ m b. links-none m (λ j.
+            number_at (coefficient (thiele_system cell) start (k - m)) j)),
+        sum_to_zeros cell.states (λ j b. payment-none j k),
+      )
       (ring (sojourn_rate_at cell 0 k ∷ []) (hlevel terms) refl)
 
   first-is : w 1 ≡ paid

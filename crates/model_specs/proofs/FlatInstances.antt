@@ -48,8 +48,10 @@ issue_without_lump : (n : ℕ) → number_at (first_before_term (cells_of_32 Bac
 issue_without_lump n = flat_months_add_up 1 n 0 (pos 0) (lump_on 0 (pos 50)) ∙ ring [] (hlevel terms) refl
 
 pub lump_at_issue : LumpAtIssue
-lump_at_issue n = (issue_without_lump n,
-    ap (λ x. x +ℚ whole (pos 50)) (issue_without_lump n) ∙ ring [] (hlevel terms) refl)
+lump_at_issue n = (
+  issue_without_lump n,
+  ap (λ x. x +ℚ whole (pos 50)) (issue_without_lump n) ∙ ring [] (hlevel terms) refl,
+)
 
 too_high : ¬ (whole (pos 384000001) ≤ℚ whole (pos (10 ^ 6)) *ℚ whole (pos 384))
 unfolding ◌+ℚ◌ ◌*ℚ◌ ◌-ℚ◌ opposite is_not_negative
@@ -58,6 +60,6 @@ too_high h = false≢true h.le
 pub higher_value_does_not_hold : HigherValueDoesNotHold
 higher_value_does_not_hold least holds =
     let between : IsBetween (pos 384000001) (pos 384000002) (10 ^ 6)
-        (value_before_issue flat_annuity (payment_plan flat_annuity) (suc least)) =
-        holds (suc least) (omega arith) in
+    (value_before_issue flat_annuity (payment_plan flat_annuity) (suc least)) =
+    holds (suc least) (omega arith) in
     too_high (subst (λ x. whole (pos 384000001) ≤ℚ whole (pos (10 ^ 6)) *ℚ x) (flat_value least) between.at_least)

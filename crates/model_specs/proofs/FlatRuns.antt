@@ -1,5 +1,6 @@
 -- A product of one state without interest: what is paid adds up.
-use Rattle.std.specs.Prelude.{◌≡◌, ℕ, zero, suc, ◌+◌, ◌-◌, ◌*◌, ◌≤◌, ℤ, pos, negsuc, List, [], ◌∷◌, length, refl}
+use Rattle.std.specs.Prelude.{◌≡◌, ℕ, zero, suc, ◌+◌, ◌-◌, ◌*◌, ◌≤◌, ℤ, pos, negsuc, List, [], ◌∷◌}
+use Rattle.std.specs.Prelude.{length, refl}
 use Rattle.std.proofs.Common.{ap, ◌∙◌, inl, inr, lit≤, lit<}
 use Rattle.std.proofs.Math.Dec.{leb-zero}
 use Rattle.std.proofs.lemmas.Bool.Decides.{eqb_tells}
@@ -112,9 +113,12 @@ module _ (months : ℕ) (amount : ℤ) (lumps : List Lump) where
       (λ cell v. cell_adds (flat_cell (months - suc k) cell) paid (flat (months - suc k) cell) v n)
       (add_lists before (lump_vector (steady_product months amount lumps)
       (payment_plan (steady_product months amount lumps)) (suc (months - suc k))))
-      ∙ rw (number_at-add_lists before (lump_vector (steady_product months amount lumps)
-      (payment_plan (steady_product months amount lumps)) (suc (months - suc k))) 0,
-      over_is amount 1, over_is amount 12)
+      ∙ rw (
+        number_at-add_lists before (lump_vector (steady_product months amount lumps)
+            (payment_plan (steady_product months amount lumps)) (suc (months - suc k))) 0,
+        over_is amount 1,
+        over_is amount 12,
+      )
       (ring (number_at before 0
       ∷ whole (lump_at (payment_plan (steady_product months amount lumps)) (suc (months - suc k)) 0)
       ∷ whole amount ∷ []) (hlevel terms) refl)

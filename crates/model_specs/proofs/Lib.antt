@@ -1,3 +1,4 @@
+pub mod CellEntries
 pub mod CellEquations
 pub mod CellShapes
 pub mod CellTables

@@ -32,10 +32,13 @@ bare cell =
 second_is : (n : ℕ) → second_moment lump_product n 0 0 ≡ whole (pos 10000)
 second_is n =
     month_keeps_second (λ cell. norberg_pair (cell_curves (cells_of_32 Backward) lump_product lump_plan 0 cell)) n 32
-    (λ cell w v. cell_keeps_second (cell_curves (cells_of_32 Backward) lump_product lump_plan 0 cell) (bare cell) w v n)
+    (λ cell w v. cell_keeps_second (cell_curves (cells_of_32 Backward) lump_product lump_plan 0 cell)
+    (bare cell) w v n)
     (before_lumps lump_product lump_plan 1 (moments_before_term lump_product lump_plan n 0))
     ∙ ring [] (hlevel terms) refl
 
 pub lump_has_no_variance : LumpHasNoVariance
-lump_has_no_variance n = (second_is (suc n),
-    rw (second_is (suc n), (lump_at_the_term n).1) (ring [] (hlevel terms) refl))
+lump_has_no_variance n = (
+  second_is (suc n),
+  rw (second_is (suc n), (lump_at_the_term n).1) (ring [] (hlevel terms) refl),
+)

@@ -10,7 +10,8 @@ use Rattle.cell_laws.specs.Systems.{coefficient, taylor_value}
 use Rattle.cell_laws.specs.Pairs.{CoupledPair, second_coefficient, second_taylor_value}
 use Rattle.cell_laws.proofs.Recurrences.{second_taylor_value_sums}
 use Rattle.model_specs.specs.Cells.{CellCurves, Backward, cells_of_32, cell_curves}
-use Rattle.model_specs.specs.Systems.{interest_at, intensity_at, sojourn_rate_at, leaving_at, first_payment_at}
+use Rattle.model_specs.specs.Systems.{interest_at, intensity_at, sojourn_rate_at, leaving_at}
+use Rattle.model_specs.specs.Systems.{first_payment_at}
 use Rattle.model_specs.specs.Systems.{second_payment_at, sum_paid_at, thiele_system, norberg_pair}
 use Rattle.model_specs.specs.Runs.{Moments, month_back, moments_month_back, moments_before_term}
 use Rattle.model_specs.specs.Runs.{before_lumps, lump_vector}
@@ -61,18 +62,24 @@ module _ (cell : CellCurves) (flat : IsFlatCell cell (whole (pos 0))) (start sec
       +ℚ whole (pos 2) *ℚ sojourn_rate_at cell 0 m *ℚ w 0
       +ℚ sum_to cell.states (λ j. intensity_at cell 0 j m *ℚ v j
       +ℚ whole (pos 2) *ℚ first_payment_at cell 0 j m *ℚ w j) ≡ whole (pos 0)
-  power-none m v w = rw (flat.interest m, leaving-none m, rate-none m,
-      sum_to_zeros cell.states {f = λ j. intensity_at cell 0 j m *ℚ v j
-      +ℚ whole (pos 2) *ℚ first_payment_at cell 0 j m *ℚ w j}
-      (λ j b. rw (first-none j m, flat.intensity 0 j m) (ring (v j ∷ w j ∷ []) (hlevel terms) refl)))
+  power-none m v w = rw (
+    flat.interest m,
+    leaving-none m,
+    rate-none m,
+    sum_to_zeros cell.states {f = λ j. intensity_at cell 0 j m *ℚ v j
+        +ℚ whole (pos 2) *ℚ first_payment_at cell 0 j m *ℚ w j}
+        (λ j b. rw (first-none j m, flat.intensity 0 j m) (ring (v j ∷ w j ∷ []) (hlevel terms) refl)),
+  )
       (ring (v 0 ∷ w 0 ∷ []) (hlevel terms) refl)
 
   next-none : (k : ℕ) → z (suc k) ≡ whole (pos 0)
   next-none k = none_of k (z (suc k)) (norberg_pair_solves cell start second flat.quintic k 0 flat.some
-      ∙ rw (sum_to_zeros (suc k) (λ m b. power-none m
-      (λ j. number_at (second_coefficient (norberg_pair cell) start second (k - m)) j)
-      (λ j. number_at (coefficient (thiele_system cell) start (k - m)) j)),
-      sum_to_zeros cell.states (λ j b. second-none j k)) (ring [] (hlevel terms) refl))
+      ∙ rw (
+        sum_to_zeros (suc k) (λ m b. power-none m
+            (λ j. number_at (second_coefficient (norberg_pair cell) start second (k - m)) j)
+            (λ j. number_at (coefficient (thiele_system cell) start (k - m)) j)),
+        sum_to_zeros cell.states (λ j b. second-none j k),
+      ) (ring [] (hlevel terms) refl))
 
   total-keeps : (n : ℕ) → sum_to (suc n) z ≡ number_at second 0
   total-keeps zero = ring (number_at second 0 ∷ []) (hlevel terms) refl

@@ -28,7 +28,8 @@ over-whole_sum (suc n) f d =
 -- a whole power as a fraction
 whole-power : (k n : ℕ) → whole (pos (k ^ n)) ≡ power (whole (pos k)) n
 whole-power k zero = rw (pow-zero k) refl
-whole-power k (suc n) = rw (pow-suc k n) (whole_mul (pos (k ^ n)) (pos k) ∙ ap (λ z. z *ℚ whole (pos k)) (whole-power k n)
+whole-power k (suc n) = rw (pow-suc k n) (whole_mul (pos (k ^ n)) (pos k)
+    ∙ ap (λ z. z *ℚ whole (pos k)) (whole-power k n)
     ∙ ring (whole (pos k) ∷ power (whole (pos k)) n ∷ []) (hlevel terms) refl)
 
 -- one term of a coefficient
@@ -36,9 +37,14 @@ term-is : (a k n e : ℕ) (c : ℤ) (d : ℕ) → over (pos (a * k ^ n * e) *ℤ
     ≡ whole (pos a) *ℚ whole (pos e) *ℚ power (whole (pos k)) n *ℚ (whole c *ℚ over (pos 1) d)
 term-is a k n e c d =
     over_is (pos (a * k ^ n * e) *ℤ c) d
-    ∙ rw (whole_mul (pos (a * k ^ n * e)) c, whole_mul (pos (a * k ^ n)) (pos e), whole_mul (pos a) (pos (k ^ n)),
-    whole-power k n)
-    (ring (whole (pos a) ∷ whole (pos e) ∷ power (whole (pos k)) n ∷ whole c ∷ over (pos 1) d ∷ []) (hlevel terms) refl)
+    ∙ rw (
+      whole_mul (pos (a * k ^ n * e)) c,
+      whole_mul (pos (a * k ^ n)) (pos e),
+      whole_mul (pos a) (pos (k ^ n)),
+      whole-power k n,
+    )
+    (ring (whole (pos a) ∷ whole (pos e) ∷ power (whole (pos k)) n ∷ whole c ∷ over (pos 1) d ∷ [])
+    (hlevel terms) refl)
 
 -- a coefficient over a month, as a sum of fractions
 month_coefficient-is : (c : List ℤ) (k i d : ℕ) → over (month_coefficient c k i) d
@@ -87,12 +93,18 @@ curve_coefficients k e a b c d f g (suc (suc (suc (suc (suc (suc i)))))) h = abs
 -- and for a payment of four
 payment_coefficients : (k e a b c d : Fraction) (i : ℕ) → i < 6 → spread k e (a ∷ b ∷ c ∷ d ∷ []) i
     ≡ moved k ((a *ℚ e) ∷ (b *ℚ e) ∷ (c *ℚ e) ∷ (d *ℚ e) ∷ []) i
-payment_coefficients k e a b c d zero h = ring (k ∷ e ∷ a ∷ b ∷ c ∷ d ∷ []) (hlevel terms) refl
-payment_coefficients k e a b c d (suc zero) h = ring (k ∷ e ∷ a ∷ b ∷ c ∷ d ∷ []) (hlevel terms) refl
-payment_coefficients k e a b c d (suc (suc zero)) h = ring (k ∷ e ∷ a ∷ b ∷ c ∷ d ∷ []) (hlevel terms) refl
-payment_coefficients k e a b c d (suc (suc (suc zero))) h = ring (k ∷ e ∷ a ∷ b ∷ c ∷ d ∷ []) (hlevel terms) refl
-payment_coefficients k e a b c d (suc (suc (suc (suc zero)))) h = ring (k ∷ e ∷ a ∷ b ∷ c ∷ d ∷ []) (hlevel terms) refl
-payment_coefficients k e a b c d (suc (suc (suc (suc (suc zero))))) h = ring (k ∷ e ∷ a ∷ b ∷ c ∷ d ∷ []) (hlevel terms) refl
+payment_coefficients k e a b c d zero h =
+    ring (k ∷ e ∷ a ∷ b ∷ c ∷ d ∷ []) (hlevel terms) refl
+payment_coefficients k e a b c d (suc zero) h =
+    ring (k ∷ e ∷ a ∷ b ∷ c ∷ d ∷ []) (hlevel terms) refl
+payment_coefficients k e a b c d (suc (suc zero)) h =
+    ring (k ∷ e ∷ a ∷ b ∷ c ∷ d ∷ []) (hlevel terms) refl
+payment_coefficients k e a b c d (suc (suc (suc zero))) h =
+    ring (k ∷ e ∷ a ∷ b ∷ c ∷ d ∷ []) (hlevel terms) refl
+payment_coefficients k e a b c d (suc (suc (suc (suc zero)))) h =
+    ring (k ∷ e ∷ a ∷ b ∷ c ∷ d ∷ []) (hlevel terms) refl
+payment_coefficients k e a b c d (suc (suc (suc (suc (suc zero))))) h =
+    ring (k ∷ e ∷ a ∷ b ∷ c ∷ d ∷ []) (hlevel terms) refl
 payment_coefficients k e a b c d (suc (suc (suc (suc (suc (suc i)))))) h = absurd (omega arith)
 
 -- whole coefficients as fractions, and over a denominator
@@ -149,8 +161,11 @@ payment-coefficient k i (x ∷ y ∷ z ∷ u ∷ v ∷ c) within four = absurd (
 weight-is : (q b den : ℕ) (x : ℤ) → 1 ≤ den → over (pos (b * q) *ℤ x) (2488320 * den)
     ≡ whole (pos b) *ℚ whole (pos q) *ℚ (whole x *ℚ (over (pos 1) 2488320 *ℚ over (pos 1) den))
 weight-is q b den x some = over_is (pos (b * q) *ℤ x) (2488320 * den)
-    ∙ rw (whole_mul (pos (b * q)) x, whole_mul (pos b) (pos q),
-    sym (over_mul (pos 1) (pos 1) 2488320 den (lit≤ tt) some))
+    ∙ rw (
+      whole_mul (pos (b * q)) x,
+      whole_mul (pos b) (pos q),
+      sym (over_mul (pos 1) (pos 1) 2488320 den (lit≤ tt) some),
+    )
     (ring (whole (pos b) ∷ whole (pos q) ∷ whole x ∷ over (pos 1) den ∷ []) (hlevel terms) refl)
 
 weighted-is : (b den : ℕ) (x : ℤ) (n : ℕ) → 1 ≤ den → over (pos b) n *ℚ over x (248832 * den)

@@ -6,7 +6,7 @@ use mathlib.Core.Path.{ap₂}
 use mathlib.Core.Quot.{sound}
 use Rattle.frac_laws.specs.Fraction.{Fraction, whole, ◌+ℚ◌, ◌*ℚ◌, ◌-ℚ◌, ◌≤ℚ◌, opposite, is_not_negative}
 use Rattle.model_specs.specs.RunInstances.{IntensityInCells, ReserveOfLastCell, MomentOfLastCell}
-use Rattle.model_specs.specs.RunInstances.{OccupancyOfFirstCell, PatternPaysAtDates, PatternPaysRate}
+use Rattle.model_specs.specs.RunInstances.{ReserveByWholeMonth, OccupancyOfFirstCell, PatternPaysAtDates, PatternPaysRate}
 use Rattle.model_specs.specs.RunInstances.{EndRowsHold, LowerOccupancyDoesNotHold}
 
 -- two lists of six numbers are one where the numbers are
@@ -17,9 +17,10 @@ six p q r s t u = ap₂ (λ x l. x ∷ l) p (ap₂ (λ x l. x ∷ l) q (ap₂ (�
 
 pub intensity_in_cells : IntensityInCells
 unfolding ◌+ℚ◌ ◌*ℚ◌
-intensity_in_cells =
-    (six (sound refl) (sound refl) (sound refl) (sound refl) (sound refl) (sound refl),
-    six (sound refl) (sound refl) (sound refl) (sound refl) (sound refl) (sound refl))
+intensity_in_cells = (
+  six (sound refl) (sound refl) (sound refl) (sound refl) (sound refl) (sound refl),
+  six (sound refl) (sound refl) (sound refl) (sound refl) (sound refl) (sound refl),
+)
 
 pub reserve_of_last_cell : ReserveOfLastCell
 unfolding ◌+ℚ◌ ◌*ℚ◌ opposite
@@ -28,6 +29,10 @@ reserve_of_last_cell = (sound refl, sound refl)
 pub moment_of_last_cell : MomentOfLastCell
 unfolding ◌+ℚ◌ ◌*ℚ◌ opposite
 moment_of_last_cell = (sound refl, sound refl)
+
+pub reserve_by_whole_month : ReserveByWholeMonth
+unfolding ◌+ℚ◌ ◌*ℚ◌ opposite
+reserve_by_whole_month = sound refl
 
 pub occupancy_of_first_cell : OccupancyOfFirstCell
 unfolding ◌+ℚ◌ ◌*ℚ◌ opposite
@@ -42,9 +47,10 @@ pattern_pays_rate = (refl, refl, refl)
 
 pub end_rows_hold : EndRowsHold
 unfolding ◌+ℚ◌ ◌*ℚ◌ ◌-ℚ◌ opposite is_not_negative
-end_rows_hold =
-    (λ n b. record { at_least = record { le = refl }; at_most = record { le = refl } },
-    λ n b. record { at_least = record { le = refl }; at_most = record { le = refl } })
+end_rows_hold = (
+  λ n b. record { at_least = record { le = refl }; at_most = record { le = refl } },
+  λ n b. record { at_least = record { le = refl }; at_most = record { le = refl } },
+)
 
 too_low : ¬ (whole (pos (10 ^ 6)) *ℚ whole (pos 1) ≤ℚ whole (pos 999999))
 unfolding ◌+ℚ◌ ◌*ℚ◌ ◌-ℚ◌ opposite is_not_negative

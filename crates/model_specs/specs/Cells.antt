@@ -1,5 +1,5 @@
--- The curves and payments of a cell as polynomials of x from 0 to 1. A year has 12 months; a month has 32 cells,
--- or one where whole months are cells.
+-- The curves and payments of a cell as polynomials of x from 0 to 1. A year has 12 months; a month has
+-- 32 cells, or one where whole months are cells. This product's own.
 use Rattle.std.specs.Prelude.{ℕ, suc, ◌+◌, ◌-◌, ◌*◌, ℤ, pos, negsuc, ◌==◌, ◌&&◌, List, [], length}
 use Rattle.std.specs.Prelude.{Option, find, option_map, unwrap_or}
 use Rattle.frac_laws.specs.Fraction.{Fraction, over}
@@ -37,8 +37,8 @@ cells_of_32 direction = record { cells = 32; direction = direction }
 abbrev pub whole_months : Direction → Grid
 whole_months direction = record { cells = 1; direction = direction }
 
--- f(b + h x), or f(b - h x) backward: a polynomial of the years since a start that is some months back, over one
--- cell of the month; h is the cell's length in years, and b is where x is 0
+-- f(b + h x), or f(b - h x) backward: a polynomial of the years since a start that is some months back,
+-- over one cell of the month; h is the cell's length in years, and b is where x is 0
 abbrev pub cell_polynomial : Grid → List Fraction → ℕ → ℕ → List Fraction
 cell_polynomial grid f months cell =
     stretched (over (sign_of grid.direction) (12 * grid.cells))

@@ -48,52 +48,87 @@ century_lump = one_state 1200 50 (negsuc 0) [] (lump_on 1200 (pos 1000))
 abbrev pub largest_annuity : Product
 largest_annuity = one_state 1200 1 (pos 0) (steady 0 (pos 1000000000000) ∷ []) []
 
--- a ring of eight states for a number of months, each left for the next one at the rate of 2, the first at its own
--- rate in millionths, with 1000 a year in each
+-- a ring of eight states for a number of months, each left for the next one at the rate of 2, the first
+-- at its own rate in millionths, with 1000 a year in each
 abbrev pub ring_of_eight : ℕ → ℤ → Product
 ring_of_eight months first = record {
-  name = codes "ring"; states = list_of 8 (λ i. codes "s"); start = 0; months = months; den = 1000000;
+  name = codes "ring";
+  states = list_of 8 (λ i. codes "s");
+  start = 0;
+  months = months;
+  den = 1000000;
   interest = constant_curve (pos 0);
   transitions = link 0 first ∷ list_of 7 (λ i. link (suc i) (pos 2000000));
-  sojourns = list_of 8 (λ i. steady i (pos 1000)); lumps = []; pattern = no_pattern;
+  sojourns = list_of 8 (λ i. steady i (pos 1000));
+  lumps = [];
+  pattern = no_pattern;
 }
   where
     link : ℕ → ℤ → Transition
     link i rate = record { from = i; to = suc i % 8; rate = constant_curve rate; sum = [] }
 
--- two states, each left at the rate 2 for the other with a sum, and the same amount a year in each, for a century at
--- minus a fiftieth a year
+-- two states, each left at the rate 2 for the other with a sum, and the same amount a year in each, for
+-- a century at minus a fiftieth a year
 abbrev pub exchange : ℤ → Product
 exchange amount = record {
-  name = codes "exchange"; states = codes "a" ∷ codes "b" ∷ []; start = 0; months = 1200; den = 50;
+  name = codes "exchange";
+  states = codes "a" ∷ codes "b" ∷ [];
+  start = 0;
+  months = 1200;
+  den = 50;
   interest = constant_curve (negsuc 0);
-  transitions = list_of 2 (λ i. record { from = i; to = suc i % 2; rate = constant_curve (pos 100);
-    sum = constant_step 0 amount ∷ [] });
-  sojourns = list_of 2 (λ i. steady i amount); lumps = []; pattern = no_pattern;
+  transitions = list_of 2 (λ i. record {
+    from = i;
+    to = suc i % 2;
+    rate = constant_curve (pos 100);
+    sum = constant_step 0 amount ∷ [];
+  });
+  sojourns = list_of 2 (λ i. steady i amount);
+  lumps = [];
+  pattern = no_pattern;
 }
 
--- two states, the first of which is left for the second at the rate c_0 + c_1 t over a denominator; no payments
+-- two states, the first of which is left for the second at the rate c_0 + c_1 t over a denominator; no
+-- payments
 abbrev pub linear_decrement : ℕ → ℕ → ℤ → ℤ → Product
 linear_decrement months den c0 c1 = record {
-  name = codes "decrement"; states = codes "active" ∷ codes "dead" ∷ []; start = 0; months = months; den = den;
+  name = codes "decrement";
+  states = codes "active" ∷ codes "dead" ∷ [];
+  start = 0;
+  months = months;
+  den = den;
   interest = constant_curve (pos 0);
-  transitions = record { from = 0; to = 1; sum = [];
-    rate = record { from = 0; c = c0 ∷ c1 ∷ pos 0 ∷ pos 0 ∷ pos 0 ∷ pos 0 ∷ [] } ∷ [] } ∷ [];
-  sojourns = []; lumps = []; pattern = no_pattern;
+  transitions = record {
+    from = 0;
+    to = 1;
+    sum = [];
+    rate = record { from = 0; c = c0 ∷ c1 ∷ pos 0 ∷ pos 0 ∷ pos 0 ∷ pos 0 ∷ [] } ∷ [];
+  } ∷ [];
+  sojourns = [];
+  lumps = [];
+  pattern = no_pattern;
 }
 
--- a product at several limits at once: both ends of the interest, a rate that grows from 0 to 2 and then stays, sums
--- of both signs, and three dates with lumps, two of them of amount 0
+-- a product at several limits at once: both ends of the interest, a rate that grows from 0 to 2 and then
+-- stays, sums of both signs, and three dates with lumps, two of them of amount 0
 abbrev pub at_the_limits : Product
 at_the_limits = record {
-  name = codes "limits"; states = codes "a" ∷ codes "b" ∷ []; start = 1; months = 24; den = 1000000000000;
+  name = codes "limits";
+  states = codes "a" ∷ codes "b" ∷ [];
+  start = 1;
+  months = 24;
+  den = 1000000000000;
   interest = part 0 (negsuc 19999999999) (pos 0) ∷ part 12 (pos 250000000000) (pos 0) ∷ [];
-  transitions = record { from = 0; to = 1;
+  transitions = record {
+    from = 0;
+    to = 1;
     rate = part 0 (pos 0) (pos 2000000000000) ∷ part 12 (pos 2000000000000) (pos 0) ∷ [];
-    sum = constant_step 0 (negsuc 999999999999) ∷ constant_step 23 (pos 1000000000000) ∷ [] } ∷ [];
+    sum = constant_step 0 (negsuc 999999999999) ∷ constant_step 23 (pos 1000000000000) ∷ [];
+  } ∷ [];
   sojourns = steady 1 (negsuc 999999999999) ∷ [];
   lumps = record { month = 24; state = 0; amount = pos 1000000000000 }
-      ∷ record { month = 0; state = 1; amount = pos 0 } ∷ record { month = 12; state = 0; amount = pos 0 } ∷ [];
+      ∷ record { month = 0; state = 1; amount = pos 0 }
+      ∷ record { month = 12; state = 0; amount = pos 0 } ∷ [];
   pattern = record { payers = 1 ∷ 0 ∷ []; until = 24; every = 1200 };
 }
   where

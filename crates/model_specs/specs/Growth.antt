@@ -4,7 +4,8 @@ use Rattle.std.specs.Int.{div_ceil}
 use Rattle.model_specs.specs.Whole.{list_of, greatest_whole, least_whole, greatest_natural, natural_part}
 use Rattle.model_specs.specs.Product.{Product, Step}
 use Rattle.model_specs.specs.Payments.{Plan, step_at, sojourn_at, sum_at}
-use Rattle.model_specs.specs.MonthNumbers.{bernstein_numerators, month_unit, greatest_rate, exits, rho, iota, nu}
+use Rattle.model_specs.specs.MonthNumbers.{bernstein_numerators, month_unit, greatest_rate, exits, rho}
+use Rattle.model_specs.specs.MonthNumbers.{iota, nu}
 
 -- phi40: 2^40 (5 rho + 6 iota) / 768, rounded up
 abbrev pub phi40 : Product → ℕ → ℕ
@@ -17,16 +18,16 @@ abbrev pub kappa40 : Product → ℕ → ℕ
 kappa40 product month = div_ceil (9 * phi40 product month ^ 2) (2 ^ 44)
     + div_ceil (2 ^ 40 * nu product month) (192 * month_unit product)
 
--- the load of a payment in a month, in minor units (a year, for a sojourn): the greatest size of its Bernstein
--- coefficients and four times their spread, rounded up
+-- the load of a payment in a month, in minor units (a year, for a sojourn): the greatest size of its
+-- Bernstein coefficients and four times their spread, rounded up
 abbrev pub load : Step → ℕ → ℕ
 load step month =
     let b = bernstein_numerators step.c (month - step.from) in
     div_ceil (greatest_natural (map unsigned_abs b) + 4 * natural_part (greatest_whole b -ℤ least_whole b))
     2488320
 
--- what a state pays in a month, a year, over the month's denominator: the load of its sojourn rate, and for each
--- exit the greatest rate times the load of the sum
+-- what a state pays in a month, a year, over the month's denominator: the load of its sojourn rate, and
+-- for each exit the greatest rate times the load of the sum
 abbrev pub state_pay : Product → Plan → ℕ → ℕ → ℕ
 state_pay product plan month state =
     load (sojourn_at plan state month) month * month_unit product
@@ -39,7 +40,8 @@ pay product plan month =
     div_ceil (1024 * greatest_natural (list_of (length product.states) (state_pay product plan month)))
     (192 * month_unit product)
 
--- the size of a transition's sum over the term: its greatest load over the months, and 0 where nothing is paid
+-- the size of a transition's sum over the term: its greatest load over the months, and 0 where nothing
+-- is paid
 abbrev pub sum_size : ℕ → List Step → ℕ
 sum_size months [] = 0
 sum_size months (step ∷ steps) = greatest_natural (list_of months (λ m. load (step_at (step ∷ steps) m) m))

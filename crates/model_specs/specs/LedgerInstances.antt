@@ -1,4 +1,5 @@
--- What the ledgers of small products come to, beside numbers that were computed by hand or by another program.
+-- What the ledgers of small products come to, beside numbers that were computed by hand or by another
+-- program.
 use Rattle.std.specs.Prelude.{◌≡◌, ℕ, pos, negsuc, Some, None, [], ◌∷◌}
 use Rattle.model_specs.specs.Product.{Product, Step}
 use Rattle.model_specs.specs.Payments.{payment_plan, pattern_plan}
@@ -46,8 +47,8 @@ RingScale = let ring = ring_of_eight 1200 (pos 2000000) in scale ring (payment_p
 abbrev pub row_of : RowKind → ℕ → Row
 row_of kind month = record { kind = kind; month = month; state = 0; lo = pos 0; hi = pos 0 }
 
--- the bound, scales and tolerances of a product: of its value, of its occupancy at the term, of its second moment and
--- variance at date 0, and of the pattern
+-- the bound, scales and tolerances of a product: of its value, of its occupancy at the term, of its
+-- second moment and variance at date 0, and of the pattern
 pub record ChecksAs (product : Product) (bound g value occupancy second variance pattern_g pattern : ℕ)
     : Type 0 where
   pub bound_is : bound1024 product (payment_plan product) ≡ bound
@@ -93,7 +94,8 @@ TooLargeExchange = first_broken (exchange (pos 396094500959)) ≡ Some (record {
 abbrev pub FarTooLargeExchange : Type 0
 FarTooLargeExchange = first_broken (exchange (pos 1000000000000)) ≡ Some (record { rule = 18; place = 0 })
 
--- a ring in which nothing varies is one stretch of 8 + 1 steps; ten years of a rate t / 50 take 32 steps a month
+-- a ring in which nothing varies is one stretch of 8 + 1 steps; ten years of a rate t / 50 take 32 steps
+-- a month
 abbrev pub Costs : Type 0
 Costs =
     let ring = ring_of_eight 1200 (pos 2000000) in let growing = linear_decrement 120 50 (pos 0) (pos 1) in

@@ -61,15 +61,16 @@ abbrev pub date_adds : List (ℕ × ℤ) → ℕ → ℕ → ℕ → ℕ
 date_adds [] largest w G = 0
 date_adds (lump ∷ lumps) largest w G = div_ceil (2 * largest * w) G + 4
 
--- the second radius some months before the term, before that date's lumps, in units of 2^-64; G is the scale
+-- the second radius some months before the term, before that date's lumps, in units of 2^-64; G is 2^g
 abbrev pub second_before_term : Product → Plan → ℕ → ℕ → ℕ
 second_before_term product plan G zero = 0
 second_before_term product plan G (suc months) =
     let month = product.months - suc months in
     let w = radius_before_term product months in
     let lumps = lumps_at (length product.states) plan (suc month) in
+    let lumps_add = date_adds lumps (greatest_lump product plan (suc month)) w G in
     second_grow_cells (kappa40 product month) (pay product plan month) G w
-    (second_before_term product plan G months + date_adds lumps (greatest_lump product plan (suc month)) w G) 32
+    (second_before_term product plan G months + lumps_add) 32
 
 -- Ws: the second radius of the payment plan at a date, before that date's lumps
 abbrev pub second_radius : Product → ℕ → ℕ

@@ -1,5 +1,6 @@
 pub mod Cells
 pub mod Curve
+pub mod EntryLaws
 pub mod Equations
 pub mod Examples
 pub mod FlatLaws

@@ -14,8 +14,8 @@ abbrev pub FirstMomentsAgree : Type 0
 FirstMomentsAgree = (product : Product) (plan : Plan) (n k : ℕ) →
     (moments_before_term product plan n k).first ≡ first_before_term (cells_of_32 Backward) product plan n k
 
--- the second moment of a certain lump of 100 a month before it is 100^2, and its variance is 0, in every degree from
--- 1 on
+-- the second moment of a certain lump of 100 a month before it is 100^2, and its variance is 0, in every
+-- degree from 1 on
 abbrev pub LumpHasNoVariance : Type 0
 LumpHasNoVariance = (n : ℕ) →
     let product = steady_product 1 (pos 0) (lump_on 1 (pos 100)) in

@@ -10,7 +10,8 @@ use Rattle.model_specs.specs.MonthNumbers.{bernstein_numerator}
 abbrev pub month_polynomial : ℕ → List ℤ → ℕ → List Fraction
 month_polynomial den c k = cell_polynomial (whole_months Forward) (all_over den c) k 0
 
--- a numerator over 2488320 den is the Bernstein coefficient of that polynomial, for a curve's six coefficients
+-- a numerator over 2488320 den is the Bernstein coefficient of that polynomial, for a curve's six
+-- coefficients
 abbrev pub CurveNumeratorsStandForBernstein : Type 0
 CurveNumeratorsStandForBernstein = (den k j : ℕ) (c : List ℤ) → 1 ≤ den → j < 6 → length c ≡ 6
     → over (bernstein_numerator c k j) (2488320 * den) ≡ bernstein_coefficient (month_polynomial den c k) j

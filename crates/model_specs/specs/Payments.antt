@@ -1,4 +1,4 @@
--- Payments of a plan in a month and at a date.
+-- Payments of a plan in a month and at a date. This product's own.
 use Rattle.std.specs.Prelude.{ℕ, ◌*◌, ℤ, pos, ◌==◌, nat_le, ◌&&◌, if◌then◌else◌}
 use Rattle.std.specs.Prelude.{filter, filter_map, find, flat_map, map, option_map, unwrap_or}
 use Rattle.std.specs.Prelude.{List, [], ◌∷◌, slice_index_or}

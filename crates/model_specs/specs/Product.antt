@@ -8,8 +8,8 @@ pub record Step : Type 0 where
   pub from : ℕ
   pub c : List ℤ
 
--- a transition between two states, by their indices: its intensity by pieces, and the steps of the sum that is
--- paid when it happens (none: nothing is paid)
+-- a transition between two states, by their indices: its intensity by pieces, and the steps of the sum
+-- that is paid when it happens (none: nothing is paid)
 pub record Transition : Type 0 where
   pub from : ℕ
   pub to : ℕ

@@ -72,8 +72,8 @@ pub record IsPayment (months : ℕ) (steps : List Step) : Type 0 where
   pub four : All (λ step. length step.c ≡ 4) steps
   pub starts : StartsRise months (step_starts steps)
 
--- rule 11 of a step of s months: it is bounded, and so is each Bernstein coefficient of its amount in each month,
--- by 10^12 minor units
+-- rule 11 of a step of s months: it is bounded, and so is each Bernstein coefficient of its amount in
+-- each month, by 10^12 minor units
 pub record IsBoundedStep (c : List ℤ) (s : ℕ) : Type 0 where
   pub coefficients : IsBounded c s
   pub amounts : (k : ℕ) → k < s →
@@ -101,16 +101,16 @@ pub record HasGoodPayments (product : Product) : Type 0 where
   pub bounded_sojourns : All (λ s. IsBoundedPayment product.months s.steps) product.sojourns
   pub bounded_sums : All (λ t. IsBoundedPayment product.months t.sum) product.transitions
 
--- rule 12: each lump has a date of the term, a state and an amount of at most 10^12, and no two have the same date
--- and state
+-- rule 12: each lump has a date of the term, a state and an amount of at most 10^12, and no two have the
+-- same date and state
 pub record HasGoodLumps (product : Product) : Type 0 where
   pub dates : All (λ l. l.month ≤ product.months) product.lumps
   pub states : All (λ l. l.state < length product.states) product.lumps
   pub amounts : All (λ l. unsigned_abs l.amount ≤ 10 ^ 12) product.lumps
   pub distinct : AreDistinct {A = ℕ × ℕ} (0, 0) (map (λ l. (l.month, l.state)) product.lumps)
 
--- rules 13 and 14: the payers are states and differ; a pattern that pays ends within the term, at a date above 0,
--- and one without payers is the pattern that never pays
+-- rules 13 and 14: the payers are states and differ; a pattern that pays ends within the term, at a date
+-- above 0, and one without payers is the pattern that never pays
 pub record HasGoodPattern (product : Product) : Type 0 where
   pub payers : All (λ i. i < length product.states) product.pattern.payers
   pub distinct : AreDistinct 0 product.pattern.payers

@@ -1,4 +1,5 @@
 -- What a printed row says: the exact number between its two ends, for every degree from some degree on.
+-- This product's own; the variance is V2 - V^2, and the equivalence premium B / P.
 use Rattle.std.specs.Prelude.{ℕ, ◌^◌, ◌≤◌, ℤ, pos, ◌-ℤ◌}
 use Rattle.frac_laws.specs.Fraction.{Fraction, whole, ◌*ℚ◌, ◌-ℚ◌, ◌≤ℚ◌, ◌<ℚ◌}
 use Rattle.frac_laws.specs.Ledger.{tolerance_first, tolerance_second, tolerance_variance}
@@ -6,7 +7,8 @@ use Rattle.model_specs.specs.Whole.{natural_part}
 use Rattle.model_specs.specs.Product.{Product}
 use Rattle.model_specs.specs.Payments.{payment_plan, pattern_plan}
 use Rattle.model_specs.specs.Ledgers.{scale, radius, radius_forward, second_radius}
-use Rattle.model_specs.specs.Runs.{reserve, value_before_issue, benefits, pattern_value, second_moment, probability}
+use Rattle.model_specs.specs.Runs.{reserve, value_before_issue, benefits, pattern_value, second_moment}
+use Rattle.model_specs.specs.Runs.{probability}
 
 -- the kinds of numbers that a row may hold
 pub data RowKind : Type 0 where
@@ -30,8 +32,9 @@ pub record Row : Type 0 where
 
 -- the variance of the payments after a date: V2 - V^2, in squared minor units
 abbrev pub variance : Product → ℕ → ℕ → ℕ → Fraction
-variance product n date state = second_moment product n date state
-    -ℚ reserve product (payment_plan product) n date state *ℚ reserve product (payment_plan product) n date state
+variance product n date state =
+    let v = reserve product (payment_plan product) n date state in
+    second_moment product n date state -ℚ v *ℚ v
 
 -- x lies between the two ends of a row, which are in units of 1 / unit
 pub record IsBetween (lo hi : ℤ) (unit : ℕ) (x : Fraction) : Type 0 where
@@ -69,7 +72,8 @@ abbrev pub tolerance_of : Product → Row → RowKind → ℕ
 tolerance_of product row Value = tolerance_first (radius product 0) (scale product (payment_plan product))
 tolerance_of product row Reserve =
     tolerance_first (radius product row.month) (scale product (payment_plan product))
-tolerance_of product row First = tolerance_first (radius product row.month) (scale product (payment_plan product))
+tolerance_of product row First =
+    tolerance_first (radius product row.month) (scale product (payment_plan product))
 tolerance_of product row Occupancy = tolerance_first (radius_forward product row.month) 0
 tolerance_of product row Second =
     tolerance_second (second_radius product row.month) (scale product (payment_plan product))

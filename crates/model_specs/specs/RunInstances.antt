@@ -8,23 +8,33 @@ use Rattle.model_specs.specs.Product.{Product, no_pattern}
 use Rattle.model_specs.specs.Payments.{payment_plan, pattern_plan, sojourn_at}
 use Rattle.model_specs.specs.Cells.{CellCurves, Forward, Backward, cells_of_32, cell_curves}
 use Rattle.model_specs.specs.Systems.{thiele_system, norberg_pair, kolmogorov_system}
-use Rattle.model_specs.specs.Runs.{pattern_value}
+use Rattle.model_specs.specs.Runs.{month_grid_reserve, pattern_value}
 use Rattle.model_specs.specs.Rows.{Row, RowKind, Reserve, Occupancy, Holds}
 use Rattle.model_specs.specs.Examples.{one_state, constant_curve, discounted_lump}
 use Rattle.model_specs.specs.Examples.{linear_decrement}
 
--- one month of two states: a force of interest of 1/20, an intensity of (2 - 12 t) / 20 from the first to the second
--- with a sum of 1000 - 48 t, and 120 + 24 t a year in the first
+-- one month of two states: a force of interest of 1/20, an intensity of (2 - 12 t) / 20 from the first
+-- to the second with a sum of 1000 - 48 t, and 120 + 24 t a year in the first
 abbrev pub small_policy : Product
 small_policy = record {
-  name = codes "small"; states = codes "alive" ∷ codes "dead" ∷ []; start = 0; months = 1; den = 20;
+  name = codes "small";
+  states = codes "alive" ∷ codes "dead" ∷ [];
+  start = 0;
+  months = 1;
+  den = 20;
   interest = constant_curve (pos 1);
-  transitions = record { from = 0; to = 1;
+  transitions = record {
+    from = 0;
+    to = 1;
     rate = record { from = 0; c = pos 2 ∷ negsuc 11 ∷ pos 0 ∷ pos 0 ∷ pos 0 ∷ pos 0 ∷ [] } ∷ [];
-    sum = record { from = 0; c = pos 1000 ∷ negsuc 47 ∷ pos 0 ∷ pos 0 ∷ [] } ∷ [] } ∷ [];
-  sojourns = record { state = 0;
-    steps = record { from = 0; c = pos 120 ∷ pos 24 ∷ pos 0 ∷ pos 0 ∷ [] } ∷ [] } ∷ [];
-  lumps = []; pattern = no_pattern;
+    sum = record { from = 0; c = pos 1000 ∷ negsuc 47 ∷ pos 0 ∷ pos 0 ∷ [] } ∷ [];
+  } ∷ [];
+  sojourns = record {
+    state = 0;
+    steps = record { from = 0; c = pos 120 ∷ pos 24 ∷ pos 0 ∷ pos 0 ∷ [] } ∷ [];
+  } ∷ [];
+  lumps = [];
+  pattern = no_pattern;
 }
 
 -- its last cell, backward, and its first one, forward
@@ -36,11 +46,10 @@ first_cell = cell_curves (cells_of_32 Forward) small_policy (payment_plan small_
 
 -- at the month's end the intensity is 1/20, and falls with the time; at its start it is 1/10
 abbrev pub IntensityInCells : Type 0
-IntensityInCells =
-    (last_cell.intensity 0 1 ≡
-    over (pos 1) 7680 ∷ over (pos 1) 245760 ∷ over (pos 0) 1 ∷ over (pos 0) 1 ∷ over (pos 0) 1 ∷ over (pos 0) 1 ∷ [])
+IntensityInCells = let zero = over (pos 0) 1 in
+    (last_cell.intensity 0 1 ≡ over (pos 1) 7680 ∷ over (pos 1) 245760 ∷ zero ∷ zero ∷ zero ∷ zero ∷ [])
     × (first_cell.intensity 0 1 ≡
-    over (pos 1) 3840 ∷ over (negsuc 0) 245760 ∷ over (pos 0) 1 ∷ over (pos 0) 1 ∷ over (pos 0) 1 ∷ over (pos 0) 1 ∷ [])
+    over (pos 1) 3840 ∷ over (negsuc 0) 245760 ∷ zero ∷ zero ∷ zero ∷ zero ∷ [])
 
 -- two numbers of a vector
 abbrev pub HasTwo : Vector → Fraction → Fraction → Type 0
@@ -58,6 +67,11 @@ abbrev pub MomentOfLastCell : Type 0
 MomentOfLastCell = HasTwo (second_taylor_value (norberg_pair last_cell) two_zeros two_zeros 2)
     (over (pos 968197097) 7372800) (whole (pos 0))
 
+-- the reserve at issue with the whole month as one cell, by degree 2
+abbrev pub ReserveByWholeMonth : Type 0
+ReserveByWholeMonth =
+    month_grid_reserve small_policy (payment_plan small_policy) 2 0 0 ≡ over (pos 234101) 14400
+
 -- the probabilities at the end of the first cell, by degree 3
 abbrev pub OccupancyOfFirstCell : Type 0
 OccupancyOfFirstCell =
@@ -67,7 +81,7 @@ OccupancyOfFirstCell =
 -- a product with a premium pattern in its one state, and no payments
 abbrev pub pattern_of : ℕ → ℕ → Product
 pattern_of until every = record (one_state 2 1 (pos 0) [] []) {
-  pattern = record { payers = 0 ∷ []; until = until; every = every }
+  pattern = record { payers = 0 ∷ []; until = until; every = every };
 }
 
 -- dates: 0 and 1, and not 2, which is `until`; every third month below 12 is four dates

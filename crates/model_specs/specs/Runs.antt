@@ -1,4 +1,5 @@
--- The runs of degree n: the exact reserves, moments and probabilities of a product, cell by cell.
+-- The runs of degree n: the exact reserves, moments and probabilities of a product, cell by cell. The
+-- equations are those of the literature; runs by Taylor values of degree n are this product's own.
 use Rattle.std.specs.Prelude.{ℕ, zero, suc, ◌-◌, pos, ◌==◌, if◌then◌else◌, length}
 use Rattle.frac_laws.specs.Fraction.{Fraction, whole, ◌+ℚ◌, ◌*ℚ◌}
 use Rattle.frac_laws.specs.Lists.{Vector, number_at, add_lists}
@@ -37,7 +38,7 @@ abbrev pub reserve_on : Grid → Product → Plan → ℕ → ℕ → ℕ → Fr
 reserve_on grid product plan n date state =
     number_at (first_before_term grid product plan n (product.months - date)) state
 
--- V_n(date, state): the Thiele run
+-- V_n(date, state): the Thiele run (Hoem 1969; Dickson, Hardy and Waters)
 abbrev pub reserve : Product → Plan → ℕ → ℕ → ℕ → Fraction
 reserve = reserve_on (cells_of_32 Backward)
 
@@ -87,10 +88,11 @@ moments_before_term product plan n zero =
     record { first = zeros; second = zeros }
 moments_before_term product plan n (suc months) =
     let month = product.months - suc months in
-    moments_month_back (λ cell. norberg_pair (cell_curves (cells_of_32 Backward) product plan month cell)) n 32
+    moments_month_back
+    (λ cell. norberg_pair (cell_curves (cells_of_32 Backward) product plan month cell)) n 32
     (before_lumps product plan (suc month) (moments_before_term product plan n months))
 
--- V2_n(date, state): the second moment of the payment plan, in squared minor units
+-- V2_n(date, state): the second moment of the payment plan (Norberg 1995), in squared minor units
 abbrev pub second_moment : Product → ℕ → ℕ → ℕ → Fraction
 second_moment product n date state =
     number_at (moments_before_term product (payment_plan product) n (product.months - date)).second state
@@ -104,6 +106,6 @@ probabilities product n (suc month) =
     (cell_curves (cells_of_32 Forward) product (payment_plan product) month cell) in
     month_forward system n 32 (probabilities product n month)
 
--- p_n(date, state): the Kolmogorov run
+-- p_n(date, state): the Kolmogorov run (Hoem 1969)
 abbrev pub probability : Product → ℕ → ℕ → ℕ → Fraction
 probability product n date state = number_at (probabilities product n date) state

@@ -35,8 +35,8 @@ continues_stretch product plan zero = false
 continues_stretch product plan (suc month) =
     is_constant_month product plan month && keeps_values product plan month (suc month)
 
--- the steps of a month: as many as there are states and one for the first month of a constant stretch, none for its
--- others, and 32 for a month that varies
+-- the steps of a month: as many as there are states and one for the first month of a constant stretch,
+-- none for its others, and 32 for a month that varies
 abbrev pub month_cost : Product → Plan → ℕ → ℕ
 month_cost product plan month =
     if is_constant_month product plan month

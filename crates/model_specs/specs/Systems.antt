@@ -83,8 +83,8 @@ norberg_pair cell = record {
   coupling = list_of 9 (λ m. matrix_of cell.states (coupling_entry cell m));
 }
 
--- Kolmogorov's forward equation (Hoem 1969; Dickson, Hardy and Waters), where p_j is the probability of state j:
--- p_j' = sum of mu_ij p_i - mu_j p_j
+-- Kolmogorov's forward equation (Hoem 1969; Dickson, Hardy and Waters), where p_j is the probability of
+-- state j: p_j' = sum of mu_ij p_i - mu_j p_j
 abbrev pub kolmogorov_system : CellCurves → System
 kolmogorov_system cell = record {
   dimension = cell.states;

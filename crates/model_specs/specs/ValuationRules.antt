@@ -63,8 +63,8 @@ pub record IsAdmissible (product : Product) : Type 0 where
   pub well_formed : IsWellFormed product
   pub valuation : first_broken product ≡ None
 
--- a plain product: one state, no lump, the force of interest force / den for the whole term, which is from 0 to a
--- quarter, and a sojourn rate that is the same in all months (0 where there is none)
+-- a plain product: one state, no lump, the force of interest force / den for the whole term, which is
+-- from 0 to a quarter, and a sojourn rate that is the same in all months (0 where there is none)
 pub record IsPlain (product : Product) (force rate : ℤ) : Type 0 where
   pub one_state : length product.states ≡ 1
   pub no_lump : product.lumps ≡ []

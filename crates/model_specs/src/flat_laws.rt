@@ -10,8 +10,8 @@ pub fn flat_months_add_up()
     ensures { FlatMonthsAddUp }
 {}
 
-/// The reserves of a constant payment, a row that says its value and one that misses it, and lumps at the term
-/// and at issue with their second moment.
+/// The reserves of a constant payment, a row that says its value and one that misses it, and lumps at
+/// the term and at issue with their second moment.
 pub fn flat_products_are_exact()
     ensures reserves { FlatReserves }
     ensures holds { FlatValueHolds }

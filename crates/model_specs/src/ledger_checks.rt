@@ -1,5 +1,5 @@
-//! Ledgers, rules and costs of small products, beside numbers that were computed by hand or by another program.
-//! Each function says what they come to and returns at once.
+//! Ledgers, rules and costs of small products, beside numbers that were computed by hand or by another
+//! program. Each function says what they come to and returns at once.
 
 ghost use Rattle.model_specs.specs.LedgerInstances.{FlatLedgers, FlatPay, DiscountedLedgers};
 ghost use Rattle.model_specs.specs.LedgerInstances.{DiscountedGrowth, CenturyScales, RingScale, Costs};

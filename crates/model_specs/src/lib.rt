@@ -1,15 +1,15 @@
 //! Definitions of the model: products, payments, rules, ledgers, runs, and what a printed row holds.
 #![tactic(auto)]
 
+mod entry_laws;
 mod equation_laws;
 mod flat_laws;
 mod ledger_checks;
 mod number_laws;
 mod run_checks;
 
-pub use equation_laws::{
-    cells_are_quintic, first_moments_agree, systems_solve_their_equations,
-};
+pub use entry_laws::{lists_keep_states, systems_have_entries, transitions_are_found};
+pub use equation_laws::{cells_are_quintic, first_moments_agree, systems_solve_their_equations};
 pub use flat_laws::{flat_months_add_up, flat_products_are_exact};
 pub use ledger_checks::{
     century_ledgers, loads_and_numerators, product_at_the_limits, rules_at_their_limits,

@@ -3,8 +3,8 @@
 ghost use Rattle.model_specs.specs.NumberLaws.{CurveNumeratorsStandForBernstein};
 ghost use Rattle.model_specs.specs.NumberLaws.{PaymentNumeratorsStandForBernstein};
 
-/// The numerators over a month, by their common denominator, are the Bernstein coefficients of degree five of the
-/// curve or payment over that month.
+/// The numerators over a month, by their common denominator, are the Bernstein coefficients of degree
+/// five of the curve or payment over that month.
 pub fn numerators_stand_for_bernstein()
     ensures curve { CurveNumeratorsStandForBernstein }
     ensures payment { PaymentNumeratorsStandForBernstein }
