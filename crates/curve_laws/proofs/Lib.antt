@@ -1,2 +1,0 @@
-pub mod ControlLists
-pub mod PartBounds
