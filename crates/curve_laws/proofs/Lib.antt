@@ -1,0 +1,4 @@
+pub mod ControlLists
+pub mod PartBounds
+pub mod PartFacts
+pub mod PartMeans
