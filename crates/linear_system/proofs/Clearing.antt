@@ -22,7 +22,7 @@ none_cleared rows = record { done = λ j b. absurd (omega arith); left = λ j b.
 pub one_cleared : (rows old : List Row) (i : ℕ) (d r' : Row) → AreCleared rows old i → i < length rows
     → r'.columns.items ≡ (get_or rows i d).columns.items
     → r'.numbers.items ≡ replicate (length (get_or rows i d).numbers.items) (pos 0)
-        → AreCleared (set rows i r') old (i + 1)
+    → AreCleared (set rows i r') old (i + 1)
 one_cleared rows old i d r' h b ec en = record {
   done = λ j k. rw (map-set stored_row rows i r') (at_row j (equal_or_not i j) k);
   left = λ j k. let other : j ≡ i → ⊥ = omega arith in rw (map-set stored_row rows i r')
@@ -41,7 +41,7 @@ one_cleared rows old i d r' h b ec en = record {
       where
         pair : (cs cs' : List ℕ) (ns ns' : List ℤ) → cs ≡ cs' → ns ≡ ns'
             → ◌≡◌ {A = StoredRow} (record { columns = cs; numbers = ns })
-                (record { columns = cs'; numbers = ns' })
+            (record { columns = cs'; numbers = ns' })
         pair cs cs' ns ns' e f = rw (e, f) refl
 
     at_row : (j : ℕ) → (i ≡ j) ⊎ (j ≡ i → ⊥) → j < i + 1
@@ -81,8 +81,12 @@ cleared_keeps s t h c = record {
     row_keeps r h = zero_row r.columns _ (dim_of s) s.degree (length r.numbers) h.columns refl h.full
 
 pub cleared_places : (s t : StoredSystem) → IsCleared s t → HaveSamePlaces s t
-cleared_places s t c = record { dim = c.dim; degree = c.degree; columns =
-    λ i. ap (λ (r : StoredRow). r.columns) (c.rows i) }
+cleared_places s t c = record {
+  dim = c.dim;
+  degree = c.degree;
+  columns =
+      λ i. ap (λ (r : StoredRow). r.columns) (c.rows i);
+}
 
 pub cleared_numbers : (s t : StoredSystem) → IsCleared s t → HasNoNumbers t
 cleared_numbers s t c row col m = no_number (row_of t row) (length (row_of s row).numbers)
@@ -91,7 +95,7 @@ cleared_numbers s t c row col m = no_number (row_of t row) (length (row_of s row
 pub is_cleared : (degree : ℕ) (old new : List Row) (s : StoredSystem)
     → of_rows degree (map stored_row old) ≡ s → length new ≡ length old
     → ((i : ℕ) → row_at new i ≡ cleared_row (row_at old i))
-        → IsCleared s (of_rows degree (map stored_row new))
+    → IsCleared s (of_rows degree (map stored_row new))
 is_cleared degree old new s e l h = rw (← e) (record {
   dim = let l1 : length (map stored_row new) ≡ length new = simp length-map refl in
       let l2 : length (map stored_row old) ≡ length old = simp length-map refl in l1 ∙ l ∙ sym l2;

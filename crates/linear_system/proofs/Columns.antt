@@ -130,8 +130,11 @@ passed_one wanted dim col cs cs' e w t = rw e (record {
   below = t.below;
   places = λ c b. elim (last_or c col b) [
     | inl l ↦ t.places c l
-    | inr q ↦ rw q (λ p. absurd (let z = place_of-beyond col t.distinct (omega arith) in omega arith), λ p.
-        absurd (no (wanted col) w p))
+    | inr q ↦ rw q (
+      λ p. absurd (let z = place_of-beyond col t.distinct (omega arith) in omega arith),
+      λ p.
+          absurd (no (wanted col) w p),
+    )
   ];
 })
   where

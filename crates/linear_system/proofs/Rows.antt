@@ -42,7 +42,7 @@ pub record AreRows (links : List (ℕ × ℕ)) (dim degree n : ℕ) (rows : List
   pub zero : (i : ℕ) → i < n → (k : ℕ) × (get_or (map stored_row rows) i no_row).numbers ≡ replicate k (pos 0)
   pub places : (i col : ℕ) → i < n → col < dim
       → (place_of (get_or (map stored_row rows) i no_row).columns col < length
-          (get_or (map stored_row rows) i no_row).columns)
+      (get_or (map stored_row rows) i no_row).columns)
       ↔ IsTrue (may_hold links i col)
 
 pub no_rows : (links : List (ℕ × ℕ)) (dim degree : ℕ) → AreRows links dim degree 0 []
@@ -56,7 +56,7 @@ no_rows links dim degree = record {
 -- what holds of each row and of the next one holds of all after the push
 at_push : (P : ℕ → StoredRow → Type 0) (rows : List Row) (r : Row) (i : ℕ)
     → ((i : ℕ) → i < length rows → P i (get_or (map stored_row rows) i no_row))
-        → P (length rows) (stored_row r)
+    → P (length rows) (stored_row r)
     → i < length rows + 1 → P i (get_or (map stored_row (rows ++ r ∷ [])) i no_row)
 at_push P [] r zero g new b = new
 at_push P [] r (suc i) g new b = absurd (omega arith)
@@ -68,7 +68,7 @@ pub push_row : (links : List (ℕ × ℕ)) (dim degree n : ℕ) (rows rows' : Li
     → AreRows links dim degree n rows
     → rows' ≡ rows ++ r ∷ [] → IsRow dim degree (stored_row r) → r.numbers.items ≡ replicate k (pos 0)
     → ((col : ℕ) → col < dim → (place_of r.columns.items col < length r.columns.items) ↔ IsTrue
-        (may_hold links n col))
+    (may_hold links n col))
     → AreRows links dim degree (n + 1) rows'
 push_row links dim degree n rows rows' r k h e row zeros places = rw e (rw (← h.count) (record {
   count = length-append rows (r ∷ []);
@@ -113,7 +113,7 @@ zero_system links dim degree rows h row col m = elim (inside row dim) [
   | inl b ↦ no_number (get_or (map stored_row rows) row no_row) _ (h.zero row b).1 col m
   | inr b ↦ (let l = long rows h.count in
       let e : get_or (map stored_row rows) row no_row ≡ no_row =
-          get_or_past (map stored_row rows) row no_row (omega (arith, l)) in
+      get_or_past (map stored_row rows) row no_row (omega (arith, l)) in
       ap (λ r. number_in_row r col m) e)
 ]
   where

@@ -63,15 +63,21 @@ row_numbers : (r : StoredRow) (col m col2 m2 : ℕ) (v : ℤ) → place_of r.col
     ≡ cond (nat_eq col2 col && nat_eq m2 m) v (number_in_row r col2 m2)
 row_numbers r col m col2 m2 v h b = elim (equal_or_not col2 col) [
   | inl e ↦ elim (equal_or_not m2 m) [
-    | inl f ↦ rw (e, f, same col, same m, differ (place_of r.columns col) (length r.columns)
-        (λ q. absurd (omega arith)))
+    | inl f ↦ rw (
+      e,
+      f,
+      same col,
+      same m,
+      differ (place_of r.columns col) (length r.columns)
+          (λ q. absurd (omega arith)),
+    )
         (rw get_or-set_same refl)
     | inr n ↦ rw (differ m2 m n) (unchanged (nat_eq col2 col)
         (λ i p. n (sym (one_power m m2 _ _ (length r.columns) h p i).0)))
   ]
   | inr n ↦ rw (differ col2 col n)
       (kept (λ i p. n (sym (one_column r.columns col col2 h
-          (one_power m m2 _ _ (length r.columns) h p i).1))))
+      (one_power m m2 _ _ (length r.columns) h p i).1))))
 ]
   where
     found : (p l : ℕ) → p ≤ l → (p < l) ⊎ (p ≡ l)
@@ -140,14 +146,14 @@ pair cs cs' ns ns' e f = rw (e, f) refl
 -- what the program writes is the system with the number changed
 pub written : (rows : List Row) (degree i col m p : ℕ) (v v' : ℤ) (s : StoredSystem) (r r' : Row)
     → of_rows degree (map stored_row rows) ≡ s → HasColumn s i col → r ≡ get_or rows i r
-        → p ≡ place_of r.columns.items col
+    → p ≡ place_of r.columns.items col
     → v' ≡ v → r'.columns.items ≡ r.columns.items
     → r'.numbers.items ≡ set r.numbers.items (m * length r.columns.items + p) v'
     → of_rows degree (map stored_row (set rows i r')) ≡ with_number s i col m v
 written rows degree i col m p v v' s r r' es place e ep ev ec en =
     ap (of_rows degree) (map-set stored_row rows i r'
     ∙ ap (set (map stored_row rows) i) (new ∙ ap (λ q. row_with_number q (place_of q.columns col) m v)
-        (sym (row_is rows i r inside e))))
+    (sym (row_is rows i r inside e))))
     ∙ ap (λ (t : StoredSystem). with_number t i col m v) es
   where
     inside : i < length rows
@@ -160,7 +166,7 @@ written rows degree i col m p v v' s r r' es place e ep ev ec en =
 
 pub written_keeps : (degree : ℕ) (rows rows' : List StoredRow) (s : StoredSystem) (row col m : ℕ) (v : ℤ)
     → of_rows degree rows ≡ s → of_rows degree rows' ≡ with_number s row col m v
-        → IsSystem (of_rows degree rows)
+    → IsSystem (of_rows degree rows)
     → HasColumn s row col → m ≤ s.degree → unsigned_abs v ≤ 2 ^ 59 → IsSystem (of_rows degree rows')
 written_keeps degree rows rows' s row col m v es e h place hm hv =
     rw e (system_keeps s row col m v (rw es at h) place hm hv)

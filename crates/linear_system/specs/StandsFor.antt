@@ -15,7 +15,7 @@ units n = over n (2 ^ 64)
 pub record MatricesStandNear (error d : ℕ) (stored : ℕ → ℕ → ℕ → ℤ) (matrices : List Matrix) : Type 0 where
   pub near : (row col m : ℕ) → row < d → col < d
       → size (number_at (vector_at (matrix_at matrices m) row) col -ℚ units (stored row col m)) ≤ℚ units
-          (pos error)
+      (pos error)
   pub rows : (m : ℕ) → length (matrix_at matrices m) ≤ d
   pub columns : (m row : ℕ) → length (vector_at (matrix_at matrices m) row) ≤ d
   pub no_more : (row col m : ℕ) → 12 ≤ m → number_at (vector_at (matrix_at matrices m) row) col ≡ whole

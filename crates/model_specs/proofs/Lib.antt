@@ -15,6 +15,6 @@ pub mod MomentInstances
 pub mod Moments
 pub mod MonthCoefficients
 pub mod RingInstances
+pub mod RuleInstances
 pub mod RunInstances
 pub mod Scales
-pub mod RuleInstances

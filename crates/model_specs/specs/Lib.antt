@@ -15,6 +15,7 @@ pub mod Payments
 pub mod Product
 pub mod RecordRules
 pub mod Rows
+pub mod RuleInstances
 pub mod RunInstances
 pub mod Runs
 pub mod ShapeLaws
@@ -22,4 +23,3 @@ pub mod Stretches
 pub mod Systems
 pub mod ValuationRules
 pub mod Whole
-pub mod RuleInstances

@@ -40,7 +40,7 @@ numbers_of s = record {
 }
 
 -- beyond power 11 nothing is stored
-nothing_beyond : (s : StoredSystem) → IsSystem s → (m row col : ℕ) → row < dim_of s → 12 ≤ m
+pub nothing_beyond : (s : StoredSystem) → IsSystem s → (m row col : ℕ) → row < dim_of s → 12 ≤ m
     → units (stored_number s row col m) ≡ whole (pos 0)
 nothing_beyond s sys m row col b h =
     ap units (number_beyond (row_of s row) s.degree col m (sys.each row b).full

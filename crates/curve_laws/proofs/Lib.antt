@@ -1,4 +1,0 @@
-pub mod ControlLists
-pub mod PartBounds
-pub mod PartFacts
-pub mod PartMeans

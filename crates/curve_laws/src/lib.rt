@@ -1,6 +1,0 @@
-//! Laws from the Bernstein coefficients of a polynomial to its coefficients and its mean over a part of [0, 1].
-#![tactic(auto)]
-
-mod part_laws;
-
-pub use part_laws::{parts_have_small_coefficients, parts_keep_means};
