@@ -50,14 +50,14 @@ flat=$'report value flat\ndegree 24 scale 10\n0 on value 383.999999 384.000001 0
 # by hand: each of 38,400 cells rounds 10^12 * 2^16 / 384 down, and the radius is 38,400 * 1024, in units of 2^-16
 largest=$'report value largest\ndegree 24 scale 48\n0 on value 99999999999399.609375 100000000000599.609375 1200.000002\nend 1\n'
 # 240000 (1 - exp(-1/20)) = 11704.938119828..: the whole millionths around it
-interest=$'report value with-interest\ndegree 24 scale 15\n0 on value 11704.938119 11704.938120 0.000003\nend 1\n'
+interest=$'report value interest\ndegree 24 scale 15\n0 on value 11704.938119 11704.938120 0.000003\nend 1\n'
 
 try 'a flat file' 0 "$flat" value "$top/examples/flat.toml"
 try 'the largest rate over the longest term' 0 "$largest" value "$top/examples/largest.toml"
 try 'a file of 1,048,576 bytes' 0 "$flat" value "$work/longest.toml"
 try 'a file of 1,048,577 bytes' 4 $'refused length 1048577\n' value "$work/long.toml"
 try 'a file with a lump' 10 "$unbuilt" value "$work/lump.toml"
-try 'a file with interest' 0 "$interest" value "$top/examples/with_interest.toml"
+try 'a file with interest' 0 "$interest" value "$top/examples/interest.toml"
 try 'a file cut inside a string' 5 $'refused toml\n' value "$work/cut.toml"
 try 'an empty file' 10 "$unbuilt" value /dev/null
 try 'a missing file' 3 '' value "$work/missing.toml"

@@ -4,5 +4,6 @@ pub mod Causes
 pub mod Cells
 pub mod Covering
 pub mod Lookups
+pub mod Numerators
 pub mod Sizes
 pub mod Starts

@@ -1,5 +1,4 @@
 pub mod BrokenRules
 pub mod Directions
-pub mod MonthCoefficients
 pub mod PiecewiseCurves
 pub mod Records

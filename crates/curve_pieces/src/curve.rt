@@ -6,7 +6,7 @@ ghost use Rattle.frac_laws.specs.Polynomials.{all_over};
 ghost use Rattle.model_specs.specs.Curve.{piece_at};
 ghost use Rattle.model_specs.specs.Cells.{cells_of_32, curve_cell};
 ghost use Rattle.model_specs.specs.RecordRules.{IsBounded};
-ghost use Rattle.curve_pieces.specs.MonthCoefficients.{month_coefficients};
+ghost use Rattle.model_specs.specs.MonthNumbers.{curve_numerators};
 ghost use Rattle.curve_pieces.specs.Directions.{direction_of};
 ghost use Rattle.poly_small.specs.WholePolynomials.{value_of_sizes};
 ghost use Rattle.curve_pieces.specs.Records.{record_of, records_of, starts_of};
@@ -87,8 +87,7 @@ impl Curve {
     /// curve is over `den`. The curve lies between the least and the greatest of them. Takes no memory.
     pub fn month_bernstein(&self, month: u32) -> [i128; 6]
         requires { month < self.now.months }
-        ensures coefficients { (den : ℕ) → 1 ≤ den
-            → all_over (2488320 * den) result ≡ month_coefficients den self.now.pieces month }
+        ensures numerators { result ≡ curve_numerators self.now.pieces month }
         ensures size { (j : ℕ) → unsigned_abs (slice_index_or result j (pos 0)) < 2 ^ 126 }
     {
         let piece = self.at(month);

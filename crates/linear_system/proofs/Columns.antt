@@ -1,5 +1,6 @@
 -- The columns of a row, one after another.
-use Rattle.std.proofs.Common.{◌≡◌, ℕ, suc, zero, ◌+◌, ◌<◌, ◌≤◌, ◌⊎◌, inl, inr, length, get_or, List, [], ◌∷◌, ◌++◌}
+use Rattle.std.proofs.Common.{◌≡◌, ℕ, suc, zero, ◌+◌, ◌<◌, ◌≤◌, ◌⊎◌, inl, inr, length, get_or, List, [], ◌∷◌}
+use Rattle.std.proofs.Common.{◌++◌}
 use Rattle.std.proofs.Common.{refl, ap, arith, Bool, true, false, add-one}
 use Rattle.std.specs.Prelude.{nat_eq, cond, ◌↔◌, IsTrue}
 use Rattle.std.proofs.Math.ListN.{length-append}
@@ -12,7 +13,8 @@ pub same : (c : ℕ) → nat_eq c c ≡ true
 same c = grind arith
 
 -- a column past the bound has no place
-pub place_of-beyond : {bound : ℕ} {cs : List ℕ} (c : ℕ) → AreDistinct bound cs → bound ≤ c → place_of cs c ≡ length cs
+pub place_of-beyond : {bound : ℕ} {cs : List ℕ} (c : ℕ) → AreDistinct bound cs → bound ≤ c
+    → place_of cs c ≡ length cs
 place_of-beyond c none h = refl
 place_of-beyond {bound} {cs} c (also {c = x} {columns = rest} b e a) h =
     rw (differ x c (λ q. absurd (omega arith))) (ap suc (place_of-beyond c a h))
@@ -29,7 +31,8 @@ place_of-push (x ∷ cs) n c e h = cases (nat_eq x c) (λ q. place_of-push cs n 
     cases true g e = absurd (omega arith)
     cases false g e = ap suc (g (omega arith))
 
-pub place_of-kept : (cs : List ℕ) (n c : ℕ) → place_of cs c < length cs → place_of (cs ++ n ∷ []) c < length (cs ++ n ∷ [])
+pub place_of-kept : (cs : List ℕ) (n c : ℕ) → place_of cs c < length cs
+    → place_of (cs ++ n ∷ []) c < length (cs ++ n ∷ [])
 place_of-kept [] n c e = absurd (omega arith)
 place_of-kept (x ∷ cs) n c e = cases (nat_eq x c) (place_of-kept cs n c) e
   where
@@ -74,7 +77,8 @@ distinct-more (also h e a) = also (omega arith) e (distinct-more a)
 
 pub distinct-push : {n : ℕ} {cs : List ℕ} → AreDistinct n cs → AreDistinct (n + 1) (cs ++ n ∷ [])
 distinct-push none = also (omega arith) refl none
-distinct-push {n} (also {c} {columns = cs} h e a) = also (omega arith) (place_of-push cs n c e (λ q. absurd (omega arith))) (distinct-push a)
+distinct-push {n} (also {c} {columns = cs} h e a) =
+    also (omega arith) (place_of-push cs n c e (λ q. absurd (omega arith))) (distinct-push a)
 
 -- the columns below `col` that have been taken, of those that a test wants
 pub record AreTaken (wanted : ℕ → Bool) (dim col : ℕ) (cs : List ℕ) : Type 0 where
@@ -96,12 +100,14 @@ below_pushed : (cs : List ℕ) (n dim : ℕ) → n ≤ dim → ((p : ℕ) → p 
 below_pushed [] n dim h g zero b = omega arith
 below_pushed [] n dim h g (suc p) b = absurd (omega arith)
 below_pushed (c ∷ cs) n dim h g zero b = g 0 (omega arith)
-below_pushed (c ∷ cs) n dim h g (suc p) b = below_pushed cs n dim h (λ q d. g (suc q) (omega arith)) p (omega arith)
+below_pushed (c ∷ cs) n dim h g (suc p) b = below_pushed cs n dim h (λ q d. g (suc q) (omega arith)) p
+    (omega arith)
 
 last_or : (c d : ℕ) → c < d + 1 → (c < d) ⊎ (c ≡ d)
 last_or c d h = grind arith
 
-pub taken_one : (wanted : ℕ → Bool) (dim col : ℕ) (cs cs' : List ℕ) → cs' ≡ cs ++ col ∷ [] → col < dim → wanted col ≡ true
+pub taken_one : (wanted : ℕ → Bool) (dim col : ℕ) (cs cs' : List ℕ) → cs' ≡ cs ++ col ∷ [] → col < dim
+    → wanted col ≡ true
     → AreTaken wanted dim col cs → AreTaken wanted dim (col + 1) cs'
 taken_one wanted dim col cs cs' e h w t = rw e (record {
   distinct = distinct-push t.distinct;
@@ -124,14 +130,19 @@ passed_one wanted dim col cs cs' e w t = rw e (record {
   below = t.below;
   places = λ c b. elim (last_or c col b) [
     | inl l ↦ t.places c l
-    | inr q ↦ rw q (λ p. absurd (let z = place_of-beyond col t.distinct (omega arith) in omega arith), λ p. absurd (no (wanted col) w p))
+    | inr q ↦ rw q (
+      λ p. absurd (let z = place_of-beyond col t.distinct (omega arith) in omega arith),
+      λ p.
+          absurd (no (wanted col) w p),
+    )
   ];
 })
   where
     no : (b : Bool) → b ≡ false → b ≡ true → ⊥
     no b e f = cc
 
-pub with_free : (wanted : ℕ → Bool) (dim : ℕ) (cs cs' : List ℕ) → cs' ≡ cs ++ dim ∷ [] → AreTaken wanted dim dim cs → AreColumns dim cs'
+pub with_free : (wanted : ℕ → Bool) (dim : ℕ) (cs cs' : List ℕ) → cs' ≡ cs ++ dim ∷ []
+    → AreTaken wanted dim dim cs → AreColumns dim cs'
 with_free wanted dim cs cs' e t = rw e (record {
   distinct = rw add-one at (distinct-push t.distinct);
   few = omega (arith, length-append cs (dim ∷ []), t.few);
@@ -139,7 +150,8 @@ with_free wanted dim cs cs' e t = rw e (record {
   in_range = below_pushed cs dim dim (omega arith) t.below;
 })
 
-pub with_free_places : (wanted : ℕ → Bool) (dim : ℕ) (cs cs' : List ℕ) → cs' ≡ cs ++ dim ∷ [] → AreTaken wanted dim dim cs
+pub with_free_places : (wanted : ℕ → Bool) (dim : ℕ) (cs cs' : List ℕ) → cs' ≡ cs ++ dim ∷ []
+    → AreTaken wanted dim dim cs
     → (c : ℕ) → c < dim → (place_of cs' c < length cs') ↔ IsTrue (wanted c)
 with_free_places wanted dim cs cs' e t c b = rw e (
   λ p. (t.places c b).0 ((place_of-others cs dim c (λ q. absurd (omega arith))).0 p),

@@ -4,14 +4,16 @@ use Rattle.std.specs.Prelude.{List}
 use Rattle.linear_system.specs.StoredSystem.{StoredSystem}
 use Rattle.linear_system.specs.Setting.{HasPlace, HaveSamePlaces, IsMadeFor}
 
-pub place_kept : (old new : StoredSystem) (row col : ℕ) → HaveSamePlaces old new → HasPlace old row col → HasPlace new row col
+pub place_kept : (old new : StoredSystem) (row col : ℕ) → HaveSamePlaces old new → HasPlace old row col
+    → HasPlace new row col
 place_kept old new row col h p = record {
   row_in = rw h.dim p.row_in;
   col_in = rw h.dim p.col_in;
   has_column = rw (h.columns row) p.has_column;
 }
 
-place_before : (old new : StoredSystem) (row col : ℕ) → HaveSamePlaces old new → HasPlace new row col → HasPlace old row col
+place_before : (old new : StoredSystem) (row col : ℕ) → HaveSamePlaces old new → HasPlace new row col
+    → HasPlace old row col
 place_before old new row col h p = record {
   row_in = rw h.dim at p.row_in;
   col_in = rw h.dim at p.col_in;

@@ -1,5 +1,6 @@
 -- Where the numbers of a row stand.
-use Rattle.std.proofs.Common.{◌≡◌, ℕ, suc, zero, ◌+◌, ◌*◌, ◌<◌, length, get_or, List, [], ◌∷◌, refl, ap, arith}
+use Rattle.std.proofs.Common.{◌≡◌, ℕ, suc, zero, ◌+◌, ◌*◌, ◌<◌, length, get_or, List, [], ◌∷◌, refl, ap}
+use Rattle.std.proofs.Common.{arith}
 use Rattle.std.proofs.Common.{Bool, true, false, pos}
 use Rattle.std.specs.Prelude.{nat_eq, cond, replicate}
 use Rattle.linear_system.specs.StoredSystem.{place_of}
@@ -22,8 +23,10 @@ one_column (c ∷ cs) i j h e =
 -- a place and a power tell where a number stands, and the other way round
 pub one_power : (m n p q w : ℕ) → p < w → q < w → m * w + p ≡ n * w + q → (m ≡ n) × (p ≡ q)
 one_power zero zero p q w hp hq e = (refl, omega (arith, e))
-one_power zero (suc n) p q w hp hq e = absurd (let k : suc n * w ≡ n * w + w = grind arith in omega (arith, e, k))
-one_power (suc m) zero p q w hp hq e = absurd (let k : suc m * w ≡ m * w + w = grind arith in omega (arith, e, k))
+one_power zero (suc n) p q w hp hq e = absurd (let k : suc n * w ≡ n * w + w =
+    grind arith in omega (arith, e, k))
+one_power (suc m) zero p q w hp hq e = absurd (let k : suc m * w ≡ m * w + w =
+    grind arith in omega (arith, e, k))
 one_power (suc m) (suc n) p q w hp hq e =
     let k : suc m * w ≡ m * w + w = grind arith in
     let l : suc n * w ≡ n * w + w = grind arith in

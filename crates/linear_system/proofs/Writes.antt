@@ -1,10 +1,12 @@
 -- A stored system after a write: it keeps what every stored system keeps, and has the numbers that it should.
 use Rattle.std.proofs.Common.{◌≡◌, ℕ, ◌^◌, ◌+◌, ◌*◌, ◌<◌, ◌≤◌, ◌⊎◌, inl, inr, length, get_or, set, map, List}
-use Rattle.std.proofs.Common.{ℤ, pos, refl, ap, sym, ◌∙◌, arith, get_or-set_other, get_or-set_same, Bool, true, false}
+use Rattle.std.proofs.Common.{ℤ, pos, refl, ap, sym, ◌∙◌, arith, get_or-set_other, get_or-set_same, Bool}
+use Rattle.std.proofs.Common.{true, false}
 use Rattle.std.specs.Prelude.{unsigned_abs, nat_eq, cond, ◌&&◌}
 use Rattle.std.proofs.Math.ListN.{length-set, length-map}
 use Rattle.std.proofs.lemmas.List.{map-set, get_or-map}
-use Rattle.linear_system.specs.StoredSystem.{StoredRow, StoredSystem, IsSystem, IsRow, dim_of, row_of, no_row, place_of}
+use Rattle.linear_system.specs.StoredSystem.{StoredRow, StoredSystem, IsSystem, IsRow, dim_of, row_of, no_row}
+use Rattle.linear_system.specs.StoredSystem.{place_of}
 use Rattle.linear_system.specs.StoredSystem.{stored_number, number_in_row}
 use Rattle.linear_system.specs.Setting.{SetsOnly}
 use Rattle.linear_system.specs.Changes.{row_with_number, with_number, HasColumn}
@@ -18,7 +20,8 @@ equal_or_not : (i j : ℕ) → (i ≡ j) ⊎ (i ≡ j → ⊥)
 equal_or_not i j = grind arith
 
 -- what holds of the old item and of the new one holds at each index
-at_set : {A : Type 0} (P : A → Type 0) (l : List A) (i j : ℕ) (a d : A) → i < length l → P a → P (get_or l j d)
+at_set : {A : Type 0} (P : A → Type 0) (l : List A) (i j : ℕ) (a d : A) → i < length l → P a
+    → P (get_or l j d)
     → P (get_or (set l i a) j d)
 at_set P l i j a d h p q = elim (equal_or_not i j) [
   | inl e ↦ rw (← e) (rw get_or-set_same p)
@@ -29,7 +32,8 @@ at_set P l i j a d h p q = elim (equal_or_not i j) [
 within_row : (m degree w p n : ℕ) → p < w → m ≤ degree → n ≡ (degree + 1) * w → m * w + p < n
 within_row m degree w p n h k e = grind arith
 
-pub row_keeps : (dim degree : ℕ) (r : StoredRow) (p m : ℕ) (v : ℤ) → IsRow dim degree r → p < length r.columns → m ≤ degree
+pub row_keeps : (dim degree : ℕ) (r : StoredRow) (p m : ℕ) (v : ℤ) → IsRow dim degree r → p < length r.columns
+    → m ≤ degree
     → unsigned_abs v ≤ 2 ^ 59 → IsRow dim degree (row_with_number r p m v)
 row_keeps dim degree r p m v h hp hm hv = record {
   columns = h.columns;
@@ -38,7 +42,8 @@ row_keeps dim degree r p m v h hp hm hv = record {
       (within_row m degree (length r.columns) p (length r.numbers) hp hm h.full) hv (h.small q);
 }
 
-pub system_keeps : (s : StoredSystem) (row col m : ℕ) (v : ℤ) → IsSystem s → HasColumn s row col → m ≤ s.degree
+pub system_keeps : (s : StoredSystem) (row col m : ℕ) (v : ℤ) → IsSystem s → HasColumn s row col
+    → m ≤ s.degree
     → unsigned_abs v ≤ 2 ^ 59 → IsSystem (with_number s row col m v)
 system_keeps s row col m v h place hm hv = record {
   dim_small = rw len h.dim_small;
@@ -58,12 +63,21 @@ row_numbers : (r : StoredRow) (col m col2 m2 : ℕ) (v : ℤ) → place_of r.col
     ≡ cond (nat_eq col2 col && nat_eq m2 m) v (number_in_row r col2 m2)
 row_numbers r col m col2 m2 v h b = elim (equal_or_not col2 col) [
   | inl e ↦ elim (equal_or_not m2 m) [
-    | inl f ↦ rw (e, f, same col, same m, differ (place_of r.columns col) (length r.columns) (λ q. absurd (omega arith)))
+    | inl f ↦ rw (
+      e,
+      f,
+      same col,
+      same m,
+      differ (place_of r.columns col) (length r.columns)
+          (λ q. absurd (omega arith)),
+    )
         (rw get_or-set_same refl)
-    | inr n ↦ rw (differ m2 m n) (unchanged (nat_eq col2 col) (λ i p. n (sym (one_power m m2 _ _ (length r.columns) h p i).0)))
+    | inr n ↦ rw (differ m2 m n) (unchanged (nat_eq col2 col)
+        (λ i p. n (sym (one_power m m2 _ _ (length r.columns) h p i).0)))
   ]
   | inr n ↦ rw (differ col2 col n)
-      (kept (λ i p. n (sym (one_column r.columns col col2 h (one_power m m2 _ _ (length r.columns) h p i).1))))
+      (kept (λ i p. n (sym (one_column r.columns col col2 h
+      (one_power m m2 _ _ (length r.columns) h p i).1))))
 ]
   where
     found : (p l : ℕ) → p ≤ l → (p < l) ⊎ (p ≡ l)
@@ -73,12 +87,14 @@ row_numbers r col m col2 m2 v h b = elim (equal_or_not col2 col) [
         → place_of r.columns col2 < length r.columns → ⊥)
         → number_in_row (row_with_number r (place_of r.columns col) m v) col2 m2 ≡ number_in_row r col2 m2
     kept n = elim (found (place_of r.columns col2) (length r.columns) (place_of-at_most r.columns col2)) [
-      | inl b ↦ (let other : m2 * length r.columns + place_of r.columns col2 ≡ m * length r.columns + place_of r.columns col → ⊥
+      | inl b ↦ (let other : m2 * length r.columns + place_of r.columns col2 ≡ m * length r.columns + place_of
+          r.columns col → ⊥
           = λ e. n (sym e) b in rw get_or-set_other refl)
       | inr e ↦ rw (e, same (length r.columns)) refl
     ]
 
-    unchanged : (t : Bool) → (m * length r.columns + place_of r.columns col ≡ m2 * length r.columns + place_of r.columns col2
+    unchanged : (t : Bool) → (m * length r.columns + place_of r.columns col ≡ m2 * length r.columns + place_of
+        r.columns col2
         → place_of r.columns col2 < length r.columns → ⊥)
         → number_in_row (row_with_number r (place_of r.columns col) m v) col2 m2
         ≡ cond (t && false) v (number_in_row r col2 m2)
@@ -99,11 +115,13 @@ sets_only s row col m v h place hm = record {
     inside : row < length s.rows
     inside = place.row_in
 
-    columns_at : (i : ℕ) → (row ≡ i) ⊎ (row ≡ i → ⊥) → (row_of (with_number s row col m v) i).columns ≡ (row_of s i).columns
+    columns_at : (i : ℕ) → (row ≡ i) ⊎ (row ≡ i → ⊥)
+        → (row_of (with_number s row col m v) i).columns ≡ (row_of s i).columns
     columns_at i (inl e) = let b = inside in rw (← e) (rw get_or-set_same refl)
     columns_at i (inr n) = let other : i ≡ row → ⊥ = λ e. n (sym e) in rw get_or-set_other refl
 
-    numbers_at : (row2 col2 m2 : ℕ) → (row ≡ row2) ⊎ (row ≡ row2 → ⊥) → stored_number (with_number s row col m v) row2 col2 m2
+    numbers_at : (row2 col2 m2 : ℕ) → (row ≡ row2) ⊎ (row ≡ row2 → ⊥)
+        → stored_number (with_number s row col m v) row2 col2 m2
         ≡ cond (nat_eq row2 row && (nat_eq col2 col && nat_eq m2 m)) v (stored_number s row2 col2 m2)
     numbers_at row2 col2 m2 (inl e) = let b = inside in rw (← e, same row) (rw get_or-set_same
         (row_numbers (row_of s row) col m col2 m2 v place.has_column
@@ -111,7 +129,8 @@ sets_only s row col m v h place hm = record {
     numbers_at row2 col2 m2 (inr n) = let other : row2 ≡ row → ⊥ = λ e. n (sym e) in
         rw (differ row2 row other) (rw get_or-set_other refl)
 
-pub is_set : (s t : StoredSystem) (row col m : ℕ) (v v' : ℤ) → IsSystem s → HasColumn s row col → m ≤ s.degree → v' ≡ v
+pub is_set : (s t : StoredSystem) (row col m : ℕ) (v v' : ℤ) → IsSystem s → HasColumn s row col → m ≤ s.degree
+    → v' ≡ v
     → t ≡ with_number s row col m v' → SetsOnly s t row col m v
 is_set s t row col m v v' h place hm ev et = rw (et, ev) (sets_only s row col m v h place hm)
 
@@ -126,13 +145,15 @@ pair cs cs' ns ns' e f = rw (e, f) refl
 
 -- what the program writes is the system with the number changed
 pub written : (rows : List Row) (degree i col m p : ℕ) (v v' : ℤ) (s : StoredSystem) (r r' : Row)
-    → of_rows degree (map stored_row rows) ≡ s → HasColumn s i col → r ≡ get_or rows i r → p ≡ place_of r.columns.items col
+    → of_rows degree (map stored_row rows) ≡ s → HasColumn s i col → r ≡ get_or rows i r
+    → p ≡ place_of r.columns.items col
     → v' ≡ v → r'.columns.items ≡ r.columns.items
     → r'.numbers.items ≡ set r.numbers.items (m * length r.columns.items + p) v'
     → of_rows degree (map stored_row (set rows i r')) ≡ with_number s i col m v
 written rows degree i col m p v v' s r r' es place e ep ev ec en =
     ap (of_rows degree) (map-set stored_row rows i r'
-    ∙ ap (set (map stored_row rows) i) (new ∙ ap (λ q. row_with_number q (place_of q.columns col) m v) (sym (row_is rows i r inside e))))
+    ∙ ap (set (map stored_row rows) i) (new ∙ ap (λ q. row_with_number q (place_of q.columns col) m v)
+    (sym (row_is rows i r inside e))))
     ∙ ap (λ (t : StoredSystem). with_number t i col m v) es
   where
     inside : i < length rows
@@ -144,7 +165,8 @@ written rows degree i col m p v v' s r r' es place e ep ev ec en =
     new = pair _ _ _ _ ec (en ∙ rw (ep, ev) refl)
 
 pub written_keeps : (degree : ℕ) (rows rows' : List StoredRow) (s : StoredSystem) (row col m : ℕ) (v : ℤ)
-    → of_rows degree rows ≡ s → of_rows degree rows' ≡ with_number s row col m v → IsSystem (of_rows degree rows)
+    → of_rows degree rows ≡ s → of_rows degree rows' ≡ with_number s row col m v
+    → IsSystem (of_rows degree rows)
     → HasColumn s row col → m ≤ s.degree → unsigned_abs v ≤ 2 ^ 59 → IsSystem (of_rows degree rows')
 written_keeps degree rows rows' s row col m v es e h place hm hv =
     rw e (system_keeps s row col m v (rw es at h) place hm hv)

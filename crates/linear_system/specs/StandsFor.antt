@@ -14,10 +14,12 @@ units n = over n (2 ^ 64)
 -- stored one, which is read by row, column and power; beyond power 11 the exact matrices are 0
 pub record MatricesStandNear (error d : ℕ) (stored : ℕ → ℕ → ℕ → ℤ) (matrices : List Matrix) : Type 0 where
   pub near : (row col m : ℕ) → row < d → col < d
-      → size (number_at (vector_at (matrix_at matrices m) row) col -ℚ units (stored row col m)) ≤ℚ units (pos error)
+      → size (number_at (vector_at (matrix_at matrices m) row) col -ℚ units (stored row col m)) ≤ℚ units
+      (pos error)
   pub rows : (m : ℕ) → length (matrix_at matrices m) ≤ d
   pub columns : (m row : ℕ) → length (vector_at (matrix_at matrices m) row) ≤ d
-  pub no_more : (row col m : ℕ) → 12 ≤ m → number_at (vector_at (matrix_at matrices m) row) col ≡ whole (pos 0)
+  pub no_more : (row col m : ℕ) → 12 ≤ m → number_at (vector_at (matrix_at matrices m) row) col ≡ whole
+      (pos 0)
 
 -- and so for free vectors of d numbers, whose stored ones are read by row and power
 pub record VectorsStandNear (error d : ℕ) (stored : ℕ → ℕ → ℤ) (vectors : List Vector) : Type 0 where
@@ -37,7 +39,8 @@ abbrev pub block_from : StoredSystem → ℕ → ℕ → ℕ → ℕ → ℕ →
 block_from s top left row col m = stored_number s (top + row) (left + col) m
 
 -- a pair: the first half's rows and columns come before the second half's; the coupling stands in the rows of
--- the second half and the columns of the first, each number of it at most three units away; and in the rows of
+-- the second half and the columns of the first, each number of it at most three units away; and in the rows
+-- of
 -- the first half and the columns of the second all stored numbers are 0
 pub record StandsForPair (s : StoredSystem) (half : ℕ) (p : CoupledPair) : Type 0 where
   pub halves : dim_of s ≡ half + half

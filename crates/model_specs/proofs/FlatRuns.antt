@@ -21,11 +21,11 @@ use Rattle.model_specs.specs.FlatLaws.{steady_product, FlatMonthsAddUp}
 use Rattle.model_specs.proofs.FlatCells.{IsFlatCell, cell_adds, month_adds}
 
 -- the one piece of a constant curve, and the one step of a steady payment, hold in each month
-piece-constant : (c : ℤ) (month : ℕ) → piece_at (constant_curve c) month
+pub piece-constant : (c : ℤ) (month : ℕ) → piece_at (constant_curve c) month
     ≡ record { from = 0; c = c ∷ pos 0 ∷ pos 0 ∷ pos 0 ∷ pos 0 ∷ pos 0 ∷ [] }
 piece-constant c month = rw (leb-zero month) refl
 
-step-constant : (months month : ℕ) (amount : ℤ) (lumps : List Lump)
+pub step-constant : (months month : ℕ) (amount : ℤ) (lumps : List Lump)
     → sojourn_at (payment_plan (steady_product months amount lumps)) 0 month ≡ constant_step 0 amount
 step-constant months month amount lumps = rw (leb-zero month) refl
 

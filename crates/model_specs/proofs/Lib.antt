@@ -15,5 +15,6 @@ pub mod MomentInstances
 pub mod Moments
 pub mod MonthCoefficients
 pub mod RingInstances
+pub mod RuleInstances
 pub mod RunInstances
 pub mod Scales

@@ -6,6 +6,7 @@ use mathlib.Core.Path.{ap₂}
 use mathlib.Core.Quot.{sound}
 use Rattle.frac_laws.specs.Fraction.{Fraction, whole, ◌+ℚ◌, ◌*ℚ◌, ◌-ℚ◌, ◌≤ℚ◌, opposite, is_not_negative}
 use Rattle.model_specs.specs.RunInstances.{IntensityInCells, ReserveOfLastCell, MomentOfLastCell}
+use Rattle.model_specs.specs.RunInstances.{ReserveByWholeMonth}
 use Rattle.model_specs.specs.RunInstances.{OccupancyOfFirstCell, PatternPaysAtDates, PatternPaysRate}
 use Rattle.model_specs.specs.RunInstances.{EndRowsHold, LowerOccupancyDoesNotHold}
 
@@ -29,6 +30,10 @@ reserve_of_last_cell = (sound refl, sound refl)
 pub moment_of_last_cell : MomentOfLastCell
 unfolding ◌+ℚ◌ ◌*ℚ◌ opposite
 moment_of_last_cell = (sound refl, sound refl)
+
+pub reserve_by_whole_month : ReserveByWholeMonth
+unfolding ◌+ℚ◌ ◌*ℚ◌ opposite
+reserve_by_whole_month = sound refl
 
 pub occupancy_of_first_cell : OccupancyOfFirstCell
 unfolding ◌+ℚ◌ ◌*ℚ◌ opposite

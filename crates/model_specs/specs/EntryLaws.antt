@@ -1,4 +1,5 @@
--- What stands at each place of the three systems of a cell, and how long their lists and those of the runs are.
+-- What stands at each place of the three systems of a cell, and how long their lists and those of the runs
+-- are.
 use Rattle.std.specs.Prelude.{◌≡◌, ℕ, ◌<◌, ◌≤◌, Some, length}
 use Rattle.frac_laws.specs.Fraction.{opposite, ◌+ℚ◌}
 use Rattle.frac_laws.specs.Sums.{sum_to}

@@ -127,7 +127,8 @@ at_the_limits = record {
   } ∷ [];
   sojourns = steady 1 (negsuc 999999999999) ∷ [];
   lumps = record { month = 24; state = 0; amount = pos 1000000000000 }
-      ∷ record { month = 0; state = 1; amount = pos 0 } ∷ record { month = 12; state = 0; amount = pos 0 } ∷ [];
+      ∷ record { month = 0; state = 1; amount = pos 0 }
+      ∷ record { month = 12; state = 0; amount = pos 0 } ∷ [];
   pattern = record { payers = 1 ∷ 0 ∷ []; until = 24; every = 1200 };
 }
   where

@@ -30,7 +30,8 @@ FlatReserves = (n k : ℕ) → k ≤ 12
 -- so the row that says exactly 384 of the value holds from degree 1 on
 abbrev pub FlatValueHolds : Type 0
 FlatValueHolds =
-    Holds (record { kind = Value; month = 0; state = 0; lo = pos 384000000; hi = pos 384000000 }) flat_annuity 1
+    Holds (record { kind = Value; month = 0; state = 0; lo = pos 384000000; hi = pos 384000000 })
+    flat_annuity 1
 
 -- a row that says a millionth more holds from no degree on
 abbrev pub HigherValueDoesNotHold : Type 0

@@ -68,8 +68,9 @@ second_before_term product plan G (suc months) =
     let month = product.months - suc months in
     let w = radius_before_term product months in
     let lumps = lumps_at (length product.states) plan (suc month) in
+    let lumps_add = date_adds lumps (greatest_lump product plan (suc month)) w G in
     second_grow_cells (kappa40 product month) (pay product plan month) G w
-    (second_before_term product plan G months + date_adds lumps (greatest_lump product plan (suc month)) w G) 32
+    (second_before_term product plan G months + lumps_add) 32
 
 -- Ws: the second radius of the payment plan at a date, before that date's lumps
 abbrev pub second_radius : Product → ℕ → ℕ

@@ -15,6 +15,7 @@ pub mod Payments
 pub mod Product
 pub mod RecordRules
 pub mod Rows
+pub mod RuleInstances
 pub mod RunInstances
 pub mod Runs
 pub mod ShapeLaws

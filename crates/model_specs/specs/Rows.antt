@@ -32,8 +32,9 @@ pub record Row : Type 0 where
 
 -- the variance of the payments after a date: V2 - V^2, in squared minor units
 abbrev pub variance : Product → ℕ → ℕ → ℕ → Fraction
-variance product n date state = second_moment product n date state
-    -ℚ reserve product (payment_plan product) n date state *ℚ reserve product (payment_plan product) n date state
+variance product n date state =
+    let v = reserve product (payment_plan product) n date state in
+    second_moment product n date state -ℚ v *ℚ v
 
 -- x lies between the two ends of a row, which are in units of 1 / unit
 pub record IsBetween (lo hi : ℤ) (unit : ℕ) (x : Fraction) : Type 0 where
@@ -71,7 +72,8 @@ abbrev pub tolerance_of : Product → Row → RowKind → ℕ
 tolerance_of product row Value = tolerance_first (radius product 0) (scale product (payment_plan product))
 tolerance_of product row Reserve =
     tolerance_first (radius product row.month) (scale product (payment_plan product))
-tolerance_of product row First = tolerance_first (radius product row.month) (scale product (payment_plan product))
+tolerance_of product row First =
+    tolerance_first (radius product row.month) (scale product (payment_plan product))
 tolerance_of product row Occupancy = tolerance_first (radius_forward product row.month) 0
 tolerance_of product row Second =
     tolerance_second (second_radius product row.month) (scale product (payment_plan product))

@@ -8,7 +8,7 @@ use Rattle.model_specs.specs.Product.{Product, no_pattern}
 use Rattle.model_specs.specs.Payments.{payment_plan, pattern_plan, sojourn_at}
 use Rattle.model_specs.specs.Cells.{CellCurves, Forward, Backward, cells_of_32, cell_curves}
 use Rattle.model_specs.specs.Systems.{thiele_system, norberg_pair, kolmogorov_system}
-use Rattle.model_specs.specs.Runs.{pattern_value}
+use Rattle.model_specs.specs.Runs.{month_grid_reserve, pattern_value}
 use Rattle.model_specs.specs.Rows.{Row, RowKind, Reserve, Occupancy, Holds}
 use Rattle.model_specs.specs.Examples.{one_state, constant_curve, discounted_lump}
 use Rattle.model_specs.specs.Examples.{linear_decrement}
@@ -66,6 +66,11 @@ ReserveOfLastCell =
 abbrev pub MomentOfLastCell : Type 0
 MomentOfLastCell = HasTwo (second_taylor_value (norberg_pair last_cell) two_zeros two_zeros 2)
     (over (pos 968197097) 7372800) (whole (pos 0))
+
+-- the reserve at issue with the whole month as one cell, by degree 2
+abbrev pub ReserveByWholeMonth : Type 0
+ReserveByWholeMonth =
+    month_grid_reserve small_policy (payment_plan small_policy) 2 0 0 ≡ over (pos 234101) 14400
 
 -- the probabilities at the end of the first cell, by degree 3
 abbrev pub OccupancyOfFirstCell : Type 0

@@ -88,7 +88,8 @@ moments_before_term product plan n zero =
     record { first = zeros; second = zeros }
 moments_before_term product plan n (suc months) =
     let month = product.months - suc months in
-    moments_month_back (λ cell. norberg_pair (cell_curves (cells_of_32 Backward) product plan month cell)) n 32
+    moments_month_back
+    (λ cell. norberg_pair (cell_curves (cells_of_32 Backward) product plan month cell)) n 32
     (before_lumps product plan (suc month) (moments_before_term product plan n months))
 
 -- V2_n(date, state): the second moment of the payment plan (Norberg 1995), in squared minor units

@@ -6,6 +6,7 @@ mod equation_laws;
 mod flat_laws;
 mod ledger_checks;
 mod number_laws;
+mod rule_checks;
 mod run_checks;
 
 pub use entry_laws::{lists_keep_states, systems_have_entries, transitions_are_found};
@@ -16,4 +17,5 @@ pub use ledger_checks::{
     year_ledgers,
 };
 pub use number_laws::numerators_stand_for_bernstein;
+pub use rule_checks::rules_can_be_met;
 pub use run_checks::{cell_runs, patterns_pay, rows_hold_or_not};

@@ -2,15 +2,17 @@
 //! function says what they are and returns at once.
 
 ghost use Rattle.model_specs.specs.RunInstances.{IntensityInCells, ReserveOfLastCell};
-ghost use Rattle.model_specs.specs.RunInstances.{MomentOfLastCell, OccupancyOfFirstCell};
+ghost use Rattle.model_specs.specs.RunInstances.{MomentOfLastCell, ReserveByWholeMonth, OccupancyOfFirstCell};
 ghost use Rattle.model_specs.specs.RunInstances.{PatternPaysAtDates, PatternPaysRate};
 ghost use Rattle.model_specs.specs.RunInstances.{EndRowsHold, LowerOccupancyDoesNotHold};
 
-/// One cell backward and one forward of two states, with an intensity and payments that vary.
+/// One cell backward, a whole month as one cell, and one cell forward of two states, with an intensity and
+/// payments that vary.
 pub fn cell_runs()
     ensures intensity { IntensityInCells }
     ensures reserve { ReserveOfLastCell }
     ensures second_moment { MomentOfLastCell }
+    ensures whole_month { ReserveByWholeMonth }
     ensures occupancy { OccupancyOfFirstCell }
 {}
 

@@ -1,5 +1,6 @@
 -- The whole-number run is a rounded run: each floor leaves out at least 0 and less than k + 1 units.
-use Rattle.std.specs.Prelude.{◌≡◌, ℕ, suc, zero, pos, ℤ, ◌+ℤ◌, ◌*ℤ◌, ◌<ℤ◌, List, [], ◌∷◌, length, refl, ◌<◌, ◌*◌, ◌^◌, slice_index_or}
+use Rattle.std.specs.Prelude.{◌≡◌, ℕ, suc, zero, pos, ℤ, ◌+ℤ◌, ◌*ℤ◌, ◌<ℤ◌, List, [], ◌∷◌, length, refl, ◌<◌}
+use Rattle.std.specs.Prelude.{◌*◌, ◌^◌, slice_index_or}
 use Rattle.std.proofs.Common.{ap, sym, ◌∙◌, arith, ◌++◌}
 use Rattle.std.proofs.lemmas.Int.{ints}
 use mathlib.Core.Path.{ap₂}
@@ -23,7 +24,8 @@ pub one_per_unit : whole (pos (2 ^ 64)) *ℚ unit ≡ whole (pos 1)
 one_per_unit = inverse (2 ^ 64) (omega arith)
 
 unit_positive : whole (pos 0) <ℚ unit *ℚ unit
-unit_positive = mul_positive unit unit (over_positive 1 (2 ^ 64) (omega arith) (omega arith)) (over_positive 1 (2 ^ 64) (omega arith) (omega arith))
+unit_positive = mul_positive unit unit (over_positive 1 (2 ^ 64) (omega arith) (omega arith))
+    (over_positive 1 (2 ^ 64) (omega arith) (omega arith))
 
 -- x is a sum of products, q its floor by p w, where p units are 1
 no_less_left : (x q p w u : Fraction) → q *ℚ (p *ℚ w) ≤ℚ x → p *ℚ u ≡ whole (pos 1) → whole (pos 0) ≤ℚ u *ℚ u
@@ -34,7 +36,8 @@ no_less_left x q p w u h e k =
 less_than_one_left : (x q p w u : Fraction) → x <ℚ q *ℚ (p *ℚ w) +ℚ p *ℚ w → p *ℚ u ≡ whole (pos 1)
     → whole (pos 0) <ℚ u *ℚ u → x *ℚ (u *ℚ u) -ℚ w *ℚ (q *ℚ u) <ℚ w *ℚ u
 less_than_one_left x q p w u h e k =
-    linear_lt (x ∷ q ∷ p ∷ w ∷ u ∷ []) (add_lt_le (mul_lt k h) ((q *ℚ w *ℚ u +ℚ w *ℚ u) · e)) (hlevel claims) refl
+    linear_lt (x ∷ q ∷ p ∷ w ∷ u ∷ []) (add_lt_le (mul_lt k h) ((q *ℚ w *ℚ u +ℚ w *ℚ u) · e)) (hlevel claims)
+    refl
 
 divisor : ℕ → ℕ
 divisor k = 2 ^ 64 * suc k
@@ -67,18 +70,21 @@ module _ (s : StoredSystem) (mid : List ℤ) (sys : IsSystem s) (long : length m
   exact k i = sum_of_products (row_of s i).numbers (strip (row_of s i).columns (past s mid k) (suc s.degree))
 
   left_is : (k i : ℕ) → i < dim_of s → left_out s (coefficient s mid) k i
-      ≡ whole (exact k i) *ℚ (unit *ℚ unit) -ℚ whole (pos (suc k)) *ℚ (whole (coefficient s mid (suc k) i) *ℚ unit)
+      ≡ whole (exact k i) *ℚ (unit *ℚ unit) -ℚ whole (pos (suc k)) *ℚ
+      (whole (coefficient s mid (suc k) i) *ℚ unit)
   unfolding exact
   left_is k i b =
       ap₂ (λ x y. x -ℚ whole (pos (suc k)) *ℚ y)
-      (sym (exact_sum s mid sys long i b ((sys.each i b).columns.distinct) k)) (units_is (coefficient s mid (suc k) i))
+      (sym (exact_sum s mid sys long i b ((sys.each i b).columns.distinct) k))
+      (units_is (coefficient s mid (suc k) i))
 
   low_at : (k i : ℕ) → i < dim_of s → whole (pos 0) ≤ℚ left_out s (coefficient s mid) k i
   unfolding exact past
   low_at k i b = rw (left_is k i b) (no_less_left (whole (exact k i)) _ (whole (pos (2 ^ 64))) _ unit
       (floor_below (exact k i) k) one_per_unit (le_of_lt unit_positive))
 
-  high_at : (k i : ℕ) → i < dim_of s → left_out s (coefficient s mid) k i <ℚ whole (pos (suc k)) *ℚ units (pos 1)
+  high_at : (k i : ℕ) → i < dim_of s → left_out s (coefficient s mid) k i <ℚ whole (pos (suc k)) *ℚ units
+      (pos 1)
   unfolding exact past
   high_at k i b = rw (left_is k i b) (less_than_one_left (whole (exact k i)) _ (whole (pos (2 ^ 64))) _ unit
       (floor_above (exact k i) k) one_per_unit unit_positive)
@@ -101,14 +107,18 @@ module _ (s : StoredSystem) (mid : List ℤ) (sys : IsSystem s) (long : length m
     high = λ k i b c. high_at k i c;
   }
 
-  total_is : (n i : ℕ) → i < dim_of s → units (value_to s mid n i) ≡ sum_to (suc n) (λ k. units (coefficient s mid k i))
+  total_is : (n i : ℕ) → i < dim_of s → units (value_to s mid n i) ≡ sum_to (suc n)
+      (λ k. units (coefficient s mid k i))
   unfolding value_to
-  total_is zero i b = ap units (sym (starts_at i b)) ∙ ring (units (coefficient s mid 0 i) ∷ []) (hlevel terms) refl
+  total_is zero i b = ap units (sym (starts_at i b)) ∙ ring (units (coefficient s mid 0 i) ∷ [])
+      (hlevel terms) refl
   total_is (suc n) i b =
       units_is (value_to s mid n i +ℤ coefficient s mid (suc n) i)
       ∙ ap (λ x. x *ℚ unit) (whole_add (value_to s mid n i) (coefficient s mid (suc n) i))
-      ∙ ring (whole (value_to s mid n i) ∷ whole (coefficient s mid (suc n) i) ∷ unit ∷ []) (hlevel terms) refl
-      ∙ ap₂ ◌+ℚ◌ (sym (units_is (value_to s mid n i)) ∙ total_is n i b) (sym (units_is (coefficient s mid (suc n) i)))
+      ∙ ring (whole (value_to s mid n i) ∷ whole (coefficient s mid (suc n) i) ∷ unit ∷ []) (hlevel terms)
+      refl
+      ∙ ap₂ ◌+ℚ◌ (sym (units_is (value_to s mid n i)) ∙ total_is n i b)
+      (sym (units_is (coefficient s mid (suc n) i)))
 
   pub rounded_value : (degree : ℕ) (value : List ℤ) → length value ≡ length mid
       → ((i : ℕ) → i < dim_of s → slice_index_or value i (pos 0) ≡ value_to s mid degree i)

@@ -3,9 +3,11 @@ pub mod Fits
 pub mod FitsByRows
 pub mod FitsBySums
 pub mod Floors
+pub mod ListedNumbers
 pub mod Promise
 pub mod RowProducts
 pub mod Rows
+pub mod SampleSteps
 pub mod Scaled
 pub mod Sizes
 pub mod Sparse

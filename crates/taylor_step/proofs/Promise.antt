@@ -1,5 +1,6 @@
 -- The promise of a step, from the laws of rounded steps.
-use Rattle.std.specs.Prelude.{◌≡◌, ℕ, suc, pos, ℤ, List, [], ◌∷◌, refl, length, map, take, drop, slice_index_or, ◌<◌, ◌≤◌, ◌+◌, ◌-◌}
+use Rattle.std.specs.Prelude.{◌≡◌, ℕ, suc, pos, ℤ, List, [], ◌∷◌, refl, length, map, take, drop}
+use Rattle.std.specs.Prelude.{slice_index_or, ◌<◌, ◌≤◌, ◌+◌, ◌-◌}
 use Rattle.std.proofs.Common.{ap, sym, ◌∙◌, arith}
 use Rattle.std.proofs.lemmas.List.{get_or-map}
 use Rattle.std.proofs.Math.ListN.{length-map}
@@ -12,15 +13,19 @@ use Rattle.frac_laws.proofs.Order.{le_trans}
 use Rattle.cell_laws.specs.Systems.{System}
 use Rattle.cell_laws.specs.Pairs.{CoupledPair}
 use Rattle.cell_laws.specs.Tame.{IsTame, IsTamePair}
-use Rattle.linear_system.specs.StoredSystem.{StoredSystem, IsSystem, dim_of, row_of, stored_number, stored_free}
-use Rattle.linear_system.specs.StandsFor.{units, StandsFor, StandsForPair, MatricesStandNear, VectorsStandNear}
+use Rattle.linear_system.specs.StoredSystem.{StoredSystem, IsSystem, dim_of, row_of, stored_number}
+use Rattle.linear_system.specs.StoredSystem.{stored_free}
+use Rattle.linear_system.specs.StandsFor.{units, StandsFor, StandsForPair, MatricesStandNear}
+use Rattle.linear_system.specs.StandsFor.{VectorsStandNear}
 use Rattle.step_laws.specs.RoundedRuns.{IsRoundedDown}
 use Rattle.step_laws.specs.StandsFor.{MatricesFit, VectorsFit}
 use Rattle.step_laws.specs.StepLaws.{most_numbers}
-use Rattle.step_laws.specs.StoredSteps.{StoredNumbers, StoredStandFor, StoredStandForPair, IsStoredStep, IsStoredPairStep}
+use Rattle.step_laws.specs.StoredSteps.{StoredNumbers, StoredStandFor, StoredStandForPair, IsStoredStep}
+use Rattle.step_laws.specs.StoredSteps.{IsStoredPairStep}
 use Rattle.step_laws.specs.StoredSteps.{NumbersStandFor, FreeNumbersStandFor}
 use Rattle.step_laws.proofs.StoredSteps.{stored_steps_stay_within_their_radius}
-use Rattle.step_laws.proofs.StoredPairs.{stored_first_halves_stay_within_their_radius, stored_second_halves_stay_within_their_radius}
+use Rattle.step_laws.proofs.StoredPairs.{stored_first_halves_stay_within_their_radius}
+use Rattle.step_laws.proofs.StoredPairs.{stored_second_halves_stay_within_their_radius}
 use Rattle.taylor_step.specs.Enclosures.{in_units, Encloses, EnclosesFirst, EnclosesSecond}
 use Rattle.taylor_step.specs.RoundedRun.{IsRoundedValue, unrounded, left_out}
 use Rattle.taylor_step.proofs.Fits.{coupling_total}
@@ -35,12 +40,14 @@ numbers_of s = record {
 }
 
 -- beyond power 11 nothing is stored
-nothing_beyond : (s : StoredSystem) → IsSystem s → (m row col : ℕ) → row < dim_of s → 12 ≤ m
+pub nothing_beyond : (s : StoredSystem) → IsSystem s → (m row col : ℕ) → row < dim_of s → 12 ≤ m
     → units (stored_number s row col m) ≡ whole (pos 0)
 nothing_beyond s sys m row col b h =
-    ap units (number_beyond (row_of s row) s.degree col m (sys.each row b).full (let t = sys.degree_small in omega arith)) ∙ no_units
+    ap units (number_beyond (row_of s row) s.degree col m (sys.each row b).full
+    (let t = sys.degree_small in omega arith)) ∙ no_units
 
-exact_matrices : (error d : ℕ) (stored : ℕ → ℕ → ℕ → ℤ) (matrices : List Matrix) → MatricesStandNear error d stored matrices
+exact_matrices : (error d : ℕ) (stored : ℕ → ℕ → ℕ → ℤ) (matrices : List Matrix)
+    → MatricesStandNear error d stored matrices
     → ((m row col : ℕ) → row < d → col < d → 12 ≤ m → units (stored row col m) ≡ whole (pos 0))
     → NumbersStandFor error d (λ m row col. units (stored row col m)) matrices
 exact_matrices error d stored matrices h none = record {
@@ -49,7 +56,8 @@ exact_matrices error d stored matrices h none = record {
   no_more = none;
 }
 
-exact_vectors : (error d : ℕ) (stored : ℕ → ℕ → ℤ) (vectors : List Vector) → VectorsStandNear error d stored vectors
+exact_vectors : (error d : ℕ) (stored : ℕ → ℕ → ℤ) (vectors : List Vector)
+    → VectorsStandNear error d stored vectors
     → ((m row : ℕ) → row < d → 12 ≤ m → units (stored row m) ≡ whole (pos 0))
     → FreeNumbersStandFor error d (λ m row. units (stored row m)) vectors
 exact_vectors error d stored vectors h none = record {
@@ -77,13 +85,15 @@ stands_for_pair s half p sys h = record {
       (λ m row col b c k. nothing_beyond s sys m row col (before row b) k);
   first_free = exact_vectors 3 half (stored_free s) p.first.free h.first_free
       (λ m row b k. nothing_beyond s sys m row (dim_of s) (before row b) k);
-  second = exact_matrices 1 half (λ row col m. stored_number s (half + row) (half + col) m) p.second.matrices h.second
+  second = exact_matrices 1 half (λ row col m. stored_number s (half + row) (half + col) m) p.second.matrices
+      h.second
       (λ m row col b c k. nothing_beyond s sys m (half + row) (half + col) (behind row b) k);
   second_free = exact_vectors 3 half (λ row m. stored_free s (half + row) m) p.second.free h.second_free
       (λ m row b k. nothing_beyond s sys m (half + row) (dim_of s) (behind row b) k);
   coupling = exact_matrices 3 half (λ row col m. stored_number s (half + row) col m) p.coupling h.coupling
       (λ m row col b c k. nothing_beyond s sys m (half + row) col (behind row b) k);
-  one_way = λ m row col b c. ap units (h.one_way row (half + col) m b (omega arith) (behind col c)) ∙ no_units;
+  one_way = λ m row col b c. ap units (h.one_way row (half + col) m b (omega arith) (behind col c)) ∙
+      no_units;
 }
   where
     before : (i : ℕ) → i < half → i < dim_of s
@@ -103,7 +113,8 @@ at_units : (l : List ℤ) (i : ℕ) → i < length l → number_at (in_units l) 
 at_units l i b = get_or-map units l i (pos 0) (whole (pos 0)) b
 
 -- a pair's coupling is always at most 15/16, so that the pair is tame with c = 1
-coupled_by_one : (kappa40 : ℕ) (c : Fraction) (p : CoupledPair) → IsTamePair kappa40 c p → IsTamePair kappa40 (whole (pos 1)) p
+coupled_by_one : (kappa40 : ℕ) (c : Fraction) (p : CoupledPair) → IsTamePair kappa40 c p
+    → IsTamePair kappa40 (whole (pos 1)) p
 coupled_by_one kappa40 c p tame = record {
   first = tame.first;
   second = tame.second;
@@ -112,11 +123,13 @@ coupled_by_one kappa40 c p tame = record {
   total_coupling = le_trans (coupling_total kappa40 c p tame) (linear [] (natural 0 1) (hlevel claims) refl);
 }
 
-module _ (s : StoredSystem) (old new : List ℤ) (sys : IsSystem s) (long : length old ≡ dim_of s) (value : IsRoundedValue s old 24 new) where
+module _ (s : StoredSystem) (old new : List ℤ) (sys : IsSystem s) (long : length old ≡ dim_of s)
+    (value : IsRoundedValue s old 24 new) where
   fits : (l : List ℤ) → length l ≡ dim_of s → length (in_units l) ≤ dim_of s
   fits l e = let m : length (in_units l) ≡ length l = simp length-map refl in omega (arith, m, e)
 
-  stored_step : IsStoredStep (numbers_of s) (in_units old) (in_units new) (λ k row. units (value.coefficients k row))
+  stored_step : IsStoredStep (numbers_of s) (in_units old) (in_units new)
+      (λ k row. units (value.coefficients k row))
   stored_step = record {
     mid_fits = fits old long;
     new_fits = fits new (value.rows ∙ long);
@@ -128,13 +141,16 @@ module _ (s : StoredSystem) (old new : List ℤ) (sys : IsSystem s) (long : leng
     total = λ row b. at_units new row (omega (arith, long, value.rows)) ∙ value.total row b;
   }
 
-  encloses : (norm : Norm) (e : System) (kappa40 : ℕ) → dim_of s ≤ most_numbers norm → StandsFor s e → IsTame norm kappa40 e
+  encloses : (norm : Norm) (e : System) (kappa40 : ℕ) → dim_of s ≤ most_numbers norm → StandsFor s e
+      → IsTame norm kappa40 e
       → Encloses norm e kappa40 old new 24
   encloses norm e kappa40 few stands tame y radius n start b =
-      stored_steps_stay_within_their_radius norm kappa40 radius n (numbers_of s) e y (in_units old) (in_units new)
+      stored_steps_stay_within_their_radius norm kappa40 radius n (numbers_of s) e y (in_units old)
+      (in_units new)
       (λ k row. units (value.coefficients k row)) (stands_for s e sys stands) few tame stored_step start b
 
-  pub encloses_in_sup : (e : System) (kappa40 : ℕ) → StandsFor s e → IsTame Sup kappa40 e → Encloses Sup e kappa40 old new 24
+  pub encloses_in_sup : (e : System) (kappa40 : ℕ) → StandsFor s e → IsTame Sup kappa40 e
+      → Encloses Sup e kappa40 old new 24
   encloses_in_sup e kappa40 stands tame = encloses Sup e kappa40 sys.dim_small stands tame
 
   pub encloses_in_sum : (e : System) (kappa40 : ℕ) → dim_of s ≤ 12 → StandsFor s e → IsTame Sum kappa40 e
@@ -144,10 +160,12 @@ module _ (s : StoredSystem) (old new : List ℤ) (sys : IsSystem s) (long : leng
   half_small : (half : ℕ) → dim_of s ≡ half + half → half ≤ 12
   half_small half e = omega (arith, sys.dim_small, e)
 
-  pub encloses_first : (half : ℕ) (p : CoupledPair) (kappa40 : ℕ) (c : Fraction) → StandsForPair s half p → IsTamePair kappa40 c p
+  pub encloses_first : (half : ℕ) (p : CoupledPair) (kappa40 : ℕ) (c : Fraction) → StandsForPair s half p
+      → IsTamePair kappa40 c p
       → EnclosesFirst p half kappa40 old new 24
   encloses_first half p kappa40 c stands tame w z radius radius2 n starts b =
-      stored_first_halves_stay_within_their_radius kappa40 radius radius2 radius n (whole (pos 1)) (numbers_of s) half p w z
+      stored_first_halves_stay_within_their_radius kappa40 radius radius2 radius n (whole (pos 1))
+      (numbers_of s) half p w z
       (in_units old) (in_units new) (λ k row. units (value.coefficients k row)) (record {
         stands = stands_for_pair s half p sys stands;
         dimension = half_small half stands.halves;
@@ -158,10 +176,12 @@ module _ (s : StoredSystem) (old new : List ℤ) (sys : IsSystem s) (long : leng
         receives = linear (whole (pos radius) ∷ []) (natural 0 1) (hlevel claims) refl;
       }) b
 
-  pub encloses_second : (half : ℕ) (p : CoupledPair) (kappa40 : ℕ) (c : Fraction) → StandsForPair s half p → IsTamePair kappa40 c p
+  pub encloses_second : (half : ℕ) (p : CoupledPair) (kappa40 : ℕ) (c : Fraction) → StandsForPair s half p
+      → IsTamePair kappa40 c p
       → EnclosesSecond p half kappa40 c old new 24
   encloses_second half p kappa40 c stands tame w z radius radius2 n taken starts b receives =
-      stored_second_halves_stay_within_their_radius kappa40 radius radius2 taken n c (numbers_of s) half p w z (in_units old) (in_units new)
+      stored_second_halves_stay_within_their_radius kappa40 radius radius2 taken n c (numbers_of s) half p w z
+      (in_units old) (in_units new)
       (λ k row. units (value.coefficients k row)) (record {
         stands = stands_for_pair s half p sys stands;
         dimension = half_small half stands.halves;

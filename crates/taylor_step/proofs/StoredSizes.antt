@@ -12,7 +12,8 @@ use Rattle.frac_laws.proofs.Norms.{number_at-sizes, number_below_greatest, sum_o
 use Rattle.frac_laws.proofs.Order.{le_trans, le_of_equal, le_refl, add_mono}
 use Rattle.frac_laws.proofs.Quotients.{whole_suc, whole_mul, whole-opposite}
 use Rattle.frac_laws.proofs.Signs.{add_natural}
-use Rattle.frac_laws.proofs.Sizes.{size_le, le_size, opposite_le_size, size_mul, size_of_natural, size-opposite, size_natural}
+use Rattle.frac_laws.proofs.Sizes.{size_le, le_size, opposite_le_size, size_mul, size_of_natural}
+use Rattle.frac_laws.proofs.Sizes.{size-opposite, size_natural}
 use Rattle.frac_laws.proofs.Sums.{sum_to_first, sum_to_scale_right, sum_to_add, sum_to_zeros}
 use Rattle.frac_laws.proofs.Vectors.{number_at-add_lists}
 use Rattle.cell_laws.specs.Tame.{matrix_norm_at, total_norm}
@@ -26,22 +27,27 @@ use Rattle.taylor_step.proofs.SumForms.{sums_ordered}
 size_whole : (z : ℤ) → size (whole z) ≡ whole (size_of z)
 size_whole (pos n) = size_of_natural (natural n 1)
 size_whole (negsuc n) =
-    ap size (whole-opposite (pos (suc n))) ∙ size-opposite (whole (pos (suc n))) ∙ size_of_natural (natural (suc n) 1)
+    ap size (whole-opposite (pos (suc n))) ∙ size-opposite (whole (pos (suc n))) ∙ size_of_natural
+    (natural (suc n) 1)
 
 pub size_units : (z : ℤ) → whole (size_of z) *ℚ unit ≡ size (units z)
 size_units z =
-    sym (ap size (units_is z) ∙ size_mul (whole z) unit ∙ ap₂ ◌*ℚ◌ (size_whole z) (size_of_natural (natural 1 (2 ^ 64))))
+    sym (ap size (units_is z) ∙ size_mul (whole z) unit ∙ ap₂ ◌*ℚ◌ (size_whole z)
+    (size_of_natural (natural 1 (2 ^ 64))))
 
 near_size : (x n u : Fraction) → size (x -ℚ n) ≤ℚ u → size n ≤ℚ size x +ℚ u
 near_size x n u h =
     size_le
-    (linear (x ∷ n ∷ u ∷ size x ∷ size (x -ℚ n) ∷ []) (le_size x ⊞ opposite_le_size (x -ℚ n) ⊞ h) (hlevel claims) refl)
-    (linear (x ∷ n ∷ u ∷ size x ∷ size (x -ℚ n) ∷ []) (opposite_le_size x ⊞ le_size (x -ℚ n) ⊞ h) (hlevel claims) refl)
+    (linear (x ∷ n ∷ u ∷ size x ∷ size (x -ℚ n) ∷ []) (le_size x ⊞ opposite_le_size (x -ℚ n) ⊞ h)
+    (hlevel claims) refl)
+    (linear (x ∷ n ∷ u ∷ size x ∷ size (x -ℚ n) ∷ []) (opposite_le_size x ⊞ le_size (x -ℚ n) ⊞ h)
+    (hlevel claims) refl)
 
 pub sum_same : (d : ℕ) (u : Fraction) → sum_to d (λ j. u) ≡ whole (pos d) *ℚ u
 sum_same zero u = ring (u ∷ []) (hlevel terms) refl
 sum_same (suc d) u =
-    ap (λ z. z +ℚ u) (sum_same d u) ∙ ring (whole (pos d) ∷ u ∷ []) (hlevel terms) refl ∙ ap (λ z. z *ℚ u) (sym (whole_suc d))
+    ap (λ z. z +ℚ u) (sum_same d u) ∙ ring (whole (pos d) ∷ u ∷ []) (hlevel terms) refl ∙ ap (λ z. z *ℚ u)
+    (sym (whole_suc d))
 
 -- ---- exact rows and columns within their norms
 
@@ -52,14 +58,16 @@ sum_within_list : (d : ℕ) (v : Vector) → sum_to d (λ j. size (number_at v j
 sum_within_list zero v = sum_of_sizes_natural v
 sum_within_list (suc d) [] = le_of_equal (no_sizes (suc d))
 sum_within_list (suc d) (x ∷ v) =
-    le_trans (le_of_equal (sum_to_first d (λ j. size (number_at (x ∷ v) j)))) (add_mono (le_refl (size x)) (sum_within_list d v))
+    le_trans (le_of_equal (sum_to_first d (λ j. size (number_at (x ∷ v) j))))
+    (add_mono (le_refl (size x)) (sum_within_list d v))
 
 row_sum_at : (a : Matrix) (i : ℕ) → sum_of_list (sizes (vector_at a i)) ≡ number_at (row_sums a) i
 row_sum_at [] i = refl
 row_sum_at (row ∷ a) zero = refl
 row_sum_at (row ∷ a) (suc i) = row_sum_at a i
 
-row_within : (d : ℕ) (a : Matrix) (i : ℕ) → sum_to d (λ j. size (number_at (vector_at a i) j)) ≤ℚ norm_of_matrix Sup a
+row_within : (d : ℕ) (a : Matrix) (i : ℕ) → sum_to d (λ j. size (number_at (vector_at a i) j)) ≤ℚ
+    norm_of_matrix Sup a
 row_within d a i =
     le_trans (sum_within_list d (vector_at a i))
     (le_trans (le_of_equal (row_sum_at a i)) (number_below_greatest (row_sums a) i))
@@ -79,7 +87,8 @@ column_sum_at (suc d) (row ∷ a) j =
     (le_trans (le_of_equal (sum_to_first d (λ i. size (number_at (vector_at (row ∷ a) i) j))))
     (add_mono (le_refl (size (number_at row j))) (column_sum_at d a j)))
 
-column_within : (d : ℕ) (a : Matrix) (j : ℕ) → sum_to d (λ i. size (number_at (vector_at a i) j)) ≤ℚ norm_of_matrix Sum a
+column_within : (d : ℕ) (a : Matrix) (j : ℕ) → sum_to d (λ i. size (number_at (vector_at a i) j)) ≤ℚ
+    norm_of_matrix Sum a
 column_within d a j = le_trans (column_sum_at d a j) (number_below_greatest (column_sums a) j)
 
 -- ---- stored rows and columns
@@ -87,16 +96,19 @@ column_within d a j = le_trans (column_sum_at d a j) (number_below_greatest (col
 -- a stored list of d numbers, each near an exact one
 near_sum : (d : ℕ) (error : Fraction) (exact : ℕ → Fraction) (stored : ℕ → ℤ)
     → ((j : ℕ) → j < d → size (exact j -ℚ units (stored j)) ≤ℚ error)
-    → sum_to d (λ j. whole (size_of (stored j))) *ℚ unit ≤ℚ sum_to d (λ j. size (exact j)) +ℚ whole (pos d) *ℚ error
+    → sum_to d (λ j. whole (size_of (stored j))) *ℚ unit ≤ℚ sum_to d (λ j. size (exact j)) +ℚ whole (pos d) *ℚ
+    error
 near_sum d error exact stored h =
     le_trans (le_of_equal (sym (sum_to_scale_right d unit (λ j. whole (size_of (stored j))))))
     (le_trans (sums_ordered d _ (λ j. size (exact j) +ℚ error)
-    (λ j b. le_trans (le_of_equal (size_units (stored j))) (near_size (exact j) (units (stored j)) error (h j b))))
+    (λ j b. le_trans (le_of_equal (size_units (stored j)))
+    (near_size (exact j) (units (stored j)) error (h j b))))
     (le_of_equal (sum_to_add d (λ j. size (exact j)) (λ j. error)
     ∙ ap (λ z. sum_to d (λ j. size (exact j)) +ℚ z) (sum_same d error))))
 
 -- sums over the powers, each with an error
-pub powers_with_errors : (n : ℕ) (off : Fraction) (norms : ℕ → Fraction) (total : Fraction) → sum_to n norms ≤ℚ total
+pub powers_with_errors : (n : ℕ) (off : Fraction) (norms : ℕ → Fraction) (total : Fraction)
+    → sum_to n norms ≤ℚ total
     → sum_to n (λ m. norms m +ℚ off) ≤ℚ total +ℚ whole (pos n) *ℚ off
 powers_with_errors n off norms total h =
     le_trans (le_of_equal (sum_to_add n norms (λ m. off) ∙ ap (λ z. sum_to n norms +ℚ z) (sum_same n off)))
@@ -110,7 +122,8 @@ over_powers n off stored norms total h k =
     le_trans (le_of_equal (sym (sum_to_scale_right n unit stored)))
     (le_trans (sums_ordered n _ (λ m. norms m +ℚ off) (λ m b. h m)) (powers_with_errors n off norms total k))
 
-module _ (error d : ℕ) (stored : ℕ → ℕ → ℕ → ℤ) (matrices : List Matrix) (h : MatricesStandNear error d stored matrices) where
+module _ (error d : ℕ) (stored : ℕ → ℕ → ℕ → ℤ) (matrices : List Matrix)
+    (h : MatricesStandNear error d stored matrices) where
   pub row_at_power : (row m : ℕ) → row < d
       → sum_to d (λ col. whole (size_of (stored row col m))) *ℚ unit
       ≤ℚ matrix_norm_at Sup matrices m +ℚ whole (pos d) *ℚ units (pos error)
@@ -123,7 +136,8 @@ module _ (error d : ℕ) (stored : ℕ → ℕ → ℕ → ℤ) (matrices : List
       → sum_to n (λ m. sum_to d (λ col. whole (size_of (stored row col m)))) *ℚ unit
       ≤ℚ total_norm Sup matrices +ℚ whole (pos n) *ℚ (whole (pos d) *ℚ units (pos error))
   row_total n row b =
-      over_powers n _ (λ m. sum_to d (λ col. whole (size_of (stored row col m)))) (matrix_norm_at Sup matrices) _
+      over_powers n _ (λ m. sum_to d (λ col. whole (size_of (stored row col m))))
+      (matrix_norm_at Sup matrices) _
       (λ m. row_at_power row m b) (total_within Sup matrices n)
 
   pub column_at_power : (col m : ℕ) → col < d
@@ -142,10 +156,13 @@ pub in_whole_units : (r x : Fraction) → r *ℚ unit ≤ℚ x → r ≤ℚ whol
 in_whole_units r x h = of_units r x (whole (pos (2 ^ 64))) unit h one_per_unit (natural (2 ^ 64) 1)
 
 pub errors_in_units : (n d error : ℕ)
-    → whole (pos (2 ^ 64)) *ℚ (whole (pos n) *ℚ (whole (pos d) *ℚ units (pos error))) ≡ whole (pos (n * (d * error)))
+    → whole (pos (2 ^ 64)) *ℚ (whole (pos n) *ℚ (whole (pos d) *ℚ units (pos error))) ≡ whole
+    (pos (n * (d * error)))
 errors_in_units n d error =
     ap (λ z. whole (pos (2 ^ 64)) *ℚ (whole (pos n) *ℚ (whole (pos d) *ℚ z))) (units_is (pos error))
-    ∙ ring (whole (pos n) ∷ whole (pos d) ∷ whole (pos error) ∷ whole (pos (2 ^ 64)) ∷ unit ∷ []) (hlevel terms) refl
+    ∙ ring (whole (pos n) ∷ whole (pos d) ∷ whole (pos error) ∷ whole (pos (2 ^ 64)) ∷ unit ∷ [])
+    (hlevel terms) refl
     ∙ ap (λ z. whole (pos n) *ℚ (whole (pos d) *ℚ whole (pos error)) *ℚ z) one_per_unit
     ∙ ring (whole (pos n) ∷ whole (pos d) ∷ whole (pos error) ∷ []) (hlevel terms) refl
-    ∙ ap (λ z. whole (pos n) *ℚ z) (sym (whole_mul (pos d) (pos error))) ∙ sym (whole_mul (pos n) (pos (d * error)))
+    ∙ ap (λ z. whole (pos n) *ℚ z) (sym (whole_mul (pos d) (pos error))) ∙ sym
+    (whole_mul (pos n) (pos (d * error)))

@@ -1,5 +1,6 @@
 -- What a row's product reads, step after step.
-use Rattle.std.proofs.Common.{◌≡◌, ℕ, suc, zero, ◌+◌, ◌*◌, ◌-◌, ◌<◌, ◌≤◌, length, map, List, [], ◌∷◌, ◌++◌, take, drop, ℤ, pos, refl, ap, sym, ◌∙◌, arith}
+use Rattle.std.proofs.Common.{◌≡◌, ℕ, suc, zero, ◌+◌, ◌*◌, ◌-◌, ◌<◌, ◌≤◌, length, map, List, [], ◌∷◌, ◌++◌}
+use Rattle.std.proofs.Common.{take, drop, ℤ, pos, refl, ap, sym, ◌∙◌, arith}
 use Rattle.std.proofs.Math.ListN.{length-map}
 use Rattle.taylor_step.proofs.Blocks.{drop-put_at, length-put_at, zeros-length}
 use Rattle.taylor_step.specs.Strips.{put_at, zeros}
@@ -19,17 +20,21 @@ take-take r (suc n) zero h = absurd (omega arith)
 take-take [] (suc n) (suc m) h = refl
 take-take (x ∷ r) (suc n) (suc m) h = ap (λ l. x ∷ l) (take-take r n m (omega arith))
 
-pub take-strip : (cs : List ℕ) (p : ℕ → ℕ → ℤ) (n m : ℕ) → m ≡ n * length cs → take m (strip cs p (suc n)) ≡ strip cs p n
+pub take-strip : (cs : List ℕ) (p : ℕ → ℕ → ℤ) (n m : ℕ) → m ≡ n * length cs
+    → take m (strip cs p (suc n)) ≡ strip cs p n
 take-strip cs p zero m e = let k : m ≡ 0 = omega arith in rw k refl
 take-strip cs p (suc n) m e = let l : length (map (p 0) cs) ≡ length cs = simp length-map refl in
-    take-front (map (p 0) cs) (strip cs (λ m. p (suc m)) (suc n)) m (n * length cs) (one n (length cs) m _ e l) ∙ ap (λ r. map (p 0) cs ++ r) (take-strip cs (λ m. p (suc m)) n (n * length cs) refl)
+    take-front (map (p 0) cs) (strip cs (λ m. p (suc m)) (suc n)) m (n * length cs)
+    (one n (length cs) m _ e l) ∙ ap (λ r. map (p 0) cs ++ r)
+    (take-strip cs (λ m. p (suc m)) n (n * length cs) refl)
   where
     one : (n w m l : ℕ) → m ≡ suc n * w → l ≡ w → m ≡ l + n * w
     one n w m l e k = grind arith
 
 zeros-append : (n m : ℕ) → zeros n ++ zeros m ≡ zeros (n + m)
 zeros-append zero m = let e : 0 + m ≡ m = omega arith in rw e refl
-zeros-append (suc n) m = let e : suc n + m ≡ suc (n + m) = omega arith in rw e (ap (λ l. pos 0 ∷ l) (zeros-append n m))
+zeros-append (suc n) m = let e : suc n + m ≡ suc (n + m) =
+    omega arith in rw e (ap (λ l. pos 0 ∷ l) (zeros-append n m))
 
 map-zero : (cs : List ℕ) → map (λ c. pos 0) cs ≡ zeros (length cs)
 map-zero [] = refl
@@ -37,19 +42,27 @@ map-zero (c ∷ cs) = ap (λ l. pos 0 ∷ l) (map-zero cs)
 
 pub strip-zero : (cs : List ℕ) (n : ℕ) → strip cs (λ m c. pos 0) n ≡ zeros (n * length cs)
 strip-zero cs zero = let e : 0 * length cs ≡ 0 = omega arith in rw e refl
-strip-zero cs (suc n) = let e : suc n * length cs ≡ length cs + n * length cs = grind arith in rw (map-zero cs, strip-zero cs n, e) (zeros-append (length cs) (n * length cs))
+strip-zero cs (suc n) = let e : suc n * length cs ≡ length cs + n * length cs =
+    grind arith in rw (map-zero cs, strip-zero cs n, e) (zeros-append (length cs) (n * length cs))
 
 -- the first window: the start_number, and zeros behind it
-pub first_window : (t : List ℤ) (cs : List ℕ) (mid : List ℤ) (top a z n : ℕ) → a ≡ 25 * length cs → z ≡ 24 * length cs → n ≡ (top + 1) * length cs → 36 * length cs ≤ length t → top ≤ 11
-    → take n (drop z (put_at (put_at t a (zeros (top * length cs))) z (map (start_number mid) cs))) ≡ strip cs (only_start mid) (suc top)
+pub first_window : (t : List ℤ) (cs : List ℕ) (mid : List ℤ) (top a z n : ℕ) → a ≡ 25 * length cs
+    → z ≡ 24 * length cs → n ≡ (top + 1) * length cs → 36 * length cs ≤ length t → top ≤ 11
+    → take n (drop z (put_at (put_at t a (zeros (top * length cs))) z (map (start_number mid) cs))) ≡ strip cs
+    (only_start mid) (suc top)
 first_window t cs mid top a z n ea ez en room small =
     let l : length (map (start_number mid) cs) ≡ length cs = simp length-map refl in
     let b : a ≡ z + length (map (start_number mid) cs) = omega arith in
     let fits : a + top * length cs ≤ length t = within (length cs) top a (length t) ea room small in
-    let l2 : length (put_at t a (zeros (top * length cs))) ≡ length t = length-put_at t a (zeros (top * length cs)) in
-    ap (take n) (drop-put_at (put_at t a (zeros (top * length cs))) z (map (start_number mid) cs) a b (omega arith) ∙ ap (λ r. map (start_number mid) cs ++ r) (drop-put_at t a (zeros (top * length cs)) (a + top * length cs) (omega (arith, zeros-length (top * length cs))) fits))
+    let l2 : length (put_at t a (zeros (top * length cs))) ≡ length t =
+    length-put_at t a (zeros (top * length cs)) in
+    ap (take n) (drop-put_at (put_at t a (zeros (top * length cs))) z (map (start_number mid) cs) a b
+    (omega arith) ∙ ap (λ r. map (start_number mid) cs ++ r)
+    (drop-put_at t a (zeros (top * length cs)) (a + top * length cs)
+    (omega (arith, zeros-length (top * length cs))) fits))
     ∙ take-front (map (start_number mid) cs) _ n (top * length cs) (count top (length cs) n _ en l)
-    ∙ ap (λ r. map (start_number mid) cs ++ r) (all_of (zeros (top * length cs)) _ (top * length cs) (sym (zeros-length (top * length cs))) ∙ sym (strip-zero cs top))
+    ∙ ap (λ r. map (start_number mid) cs ++ r) (all_of (zeros (top * length cs)) _ (top * length cs)
+    (sym (zeros-length (top * length cs))) ∙ sym (strip-zero cs top))
   where
     within : (w top a n : ℕ) → a ≡ 25 * w → 36 * w ≤ n → top ≤ 11 → a + top * w ≤ n
     within w top a n e h k = grind arith
@@ -63,13 +76,20 @@ first_window t cs mid top a z n ea ez en room small =
     all_of (x ∷ a) r (suc n) e = ap (λ l. x ∷ l) (all_of a r n (omega arith))
 
 -- the next window: a new block, and all but the oldest of the last one
-pub next_window : (t : List ℤ) (cs : List ℕ) (p : ℕ → ℕ → ℤ) (f : ℕ → ℤ) (top k n : ℕ) → k < 24 → n ≡ (top + 1) * length cs → 36 * length cs ≤ length t → take n (drop ((24 - k) * length cs) t) ≡ strip cs p (suc top)
-    → take n (drop ((24 - suc k) * length cs) (put_at t ((24 - suc k) * length cs) (map f cs))) ≡ strip cs (one_on f p) (suc top)
+pub next_window : (t : List ℤ) (cs : List ℕ) (p : ℕ → ℕ → ℤ) (f : ℕ → ℤ) (top k n : ℕ) → k < 24
+    → n ≡ (top + 1) * length cs → 36 * length cs ≤ length t
+    → take n (drop ((24 - k) * length cs) t) ≡ strip cs p (suc top)
+    → take n (drop ((24 - suc k) * length cs) (put_at t ((24 - suc k) * length cs) (map f cs))) ≡ strip cs
+    (one_on f p) (suc top)
 next_window t cs p f top k n h en room e =
     let l : length (map f cs) ≡ length cs = simp length-map refl in
-    ap (take n) (drop-put_at t ((24 - suc k) * length cs) (map f cs) ((24 - k) * length cs) (back k (length cs) _ h l) (within k (length cs) (length t) room))
-    ∙ take-front (map f cs) (drop ((24 - k) * length cs) t) n (top * length cs) (count top (length cs) n _ en l)
-    ∙ ap (λ r. map f cs ++ r) (sym (take-take (drop ((24 - k) * length cs) t) (top * length cs) n (fewer top (length cs) n en)) ∙ ap (take (top * length cs)) e ∙ take-strip cs p top (top * length cs) refl)
+    ap (take n) (drop-put_at t ((24 - suc k) * length cs) (map f cs) ((24 - k) * length cs)
+    (back k (length cs) _ h l) (within k (length cs) (length t) room))
+    ∙ take-front (map f cs) (drop ((24 - k) * length cs) t) n (top * length cs)
+    (count top (length cs) n _ en l)
+    ∙ ap (λ r. map f cs ++ r) (sym (take-take (drop ((24 - k) * length cs) t) (top * length cs) n
+    (fewer top (length cs) n en)) ∙ ap (take (top * length cs)) e ∙ take-strip cs p top (top * length cs)
+    refl)
   where
     back : (k w l : ℕ) → k < 24 → l ≡ w → (24 - k) * w ≡ (24 - suc k) * w + l
     back k w l h e = let d : 24 - k ≡ suc (24 - suc k) = omega arith in rw (d, e) (one (24 - suc k) w)

@@ -12,11 +12,15 @@ use Rattle.linear_system.specs.StandsFor.{StandsFor, StandsForPair}
 abbrev pub AreAtMost : ℕ → List ℤ → Type 0
 AreAtMost most numbers = (i : ℕ) → unsigned_abs (slice_index_or numbers i (pos 0)) ≤ most
 
--- in Sup each number is at most 2 in size, in Sum all sizes add up to at most 4, and of a pair each number is at
+-- in Sup each number is at most 2 in size, in Sum all sizes add up to at most 4, and of a pair each number is
+-- at
 -- most 1 + 2^-19 in size, in units of 2^-64
 pub data CanStep (s : StoredSystem) (mid : List ℤ) : Type 0 where
-  in_sup : (e : System) (kappa40 : ℕ) → StandsFor s e → IsTame Sup kappa40 e → AreAtMost (2 ^ 65) mid → CanStep s mid
-  in_sum : (e : System) (kappa40 : ℕ) → StandsFor s e → IsTame Sum kappa40 e → sum_by unsigned_abs mid ≤ 2 ^ 66
+  in_sup : (e : System) (kappa40 : ℕ) → StandsFor s e → IsTame Sup kappa40 e → AreAtMost (2 ^ 65) mid
       → CanStep s mid
-  in_pair : (half : ℕ) (p : CoupledPair) (kappa40 : ℕ) (c : Fraction) → StandsForPair s half p → IsTamePair kappa40 c p
+  in_sum : (e : System) (kappa40 : ℕ) → StandsFor s e → IsTame Sum kappa40 e
+      → sum_by unsigned_abs mid ≤ 2 ^ 66
+      → CanStep s mid
+  in_pair : (half : ℕ) (p : CoupledPair) (kappa40 : ℕ) (c : Fraction) → StandsForPair s half p
+      → IsTamePair kappa40 c p
       → AreAtMost (2 ^ 64 + 2 ^ 45) mid → CanStep s mid

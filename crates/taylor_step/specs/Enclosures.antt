@@ -14,7 +14,8 @@ use Rattle.step_laws.specs.StepLaws.{IsStartNear}
 abbrev pub in_units : List ℤ → Vector
 in_units numbers = map units numbers
 
--- the rounding of one step, with what the stored numbers are off and what follows the degree, in units of 2^-64
+-- the rounding of one step, with what the stored numbers are off and what follows the degree, in units of
+-- 2^-64
 abbrev pub step_rounding : ℕ
 step_rounding = 1023
 
@@ -22,11 +23,13 @@ step_rounding = 1023
 abbrev pub IsWithin : Norm → ℕ → Vector → Vector → Type 0
 IsWithin norm radius y mid = distance norm y mid ≤ℚ units (pos radius)
 
--- every start of norm at most 2 within a radius of the old numbers has its Taylor values, from the degree on, within
+-- every start of norm at most 2 within a radius of the old numbers has its Taylor values, from the degree on,
+-- within
 -- the grown radius of the new ones
 abbrev pub Encloses : Norm → System → ℕ → List ℤ → List ℤ → ℕ → Type 0
 Encloses norm e kappa40 old new degree =
-    (y : Vector) (radius n : ℕ) → IsStartNear norm e.dimension (whole (pos 2)) radius y (in_units old) → degree ≤ n
+    (y : Vector) (radius n : ℕ) → IsStartNear norm e.dimension (whole (pos 2)) radius y (in_units old)
+    → degree ≤ n
     → IsWithin norm (grow radius kappa40 step_rounding) (taylor_value e y n) (in_units new)
 
 -- starts of both halves of a pair, each of norm at most 1 and within a radius of its half of the numbers
@@ -40,10 +43,12 @@ EnclosesFirst p half kappa40 old new degree =
     (w z : Vector) (radius radius2 n : ℕ) → ArePairStarts half old w z radius radius2 → degree ≤ n
     → IsWithin Sup (grow radius kappa40 step_rounding) (taylor_value p.first w n) (take half (in_units new))
 
--- the second half, which also takes c times the first half's radius: `taken` is any whole number that is at least
+-- the second half, which also takes c times the first half's radius: `taken` is any whole number that is at
+-- least
 -- that
 abbrev pub EnclosesSecond : CoupledPair → ℕ → ℕ → Fraction → List ℤ → List ℤ → ℕ → Type 0
 EnclosesSecond p half kappa40 c old new degree =
     (w z : Vector) (radius radius2 n taken : ℕ) → ArePairStarts half old w z radius radius2 → degree ≤ n
     → c *ℚ whole (pos radius) ≤ℚ whole (pos taken)
-    → IsWithin Sup (grow radius2 kappa40 (taken + step_rounding)) (second_taylor_value p w z n) (drop half (in_units new))
+    → IsWithin Sup (grow radius2 kappa40 (taken + step_rounding)) (second_taylor_value p w z n)
+    (drop half (in_units new))

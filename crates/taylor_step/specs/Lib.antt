@@ -1,5 +1,6 @@
 pub mod CanStep
 pub mod Enclosures
+pub mod ListedNumbers
 pub mod RoundedRun
 pub mod Strips
 pub mod WholeRun

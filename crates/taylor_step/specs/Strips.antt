@@ -32,7 +32,8 @@ strip_of strips row = slice_index_or strips row []
 -- what a row's product reads at power k: its strip, from the block of the newest numbers on
 abbrev pub window : StoredSystem → List (List ℤ) → ℕ → ℕ → List ℤ
 window s strips k row =
-    take (length (row_of s row).numbers) (drop ((24 - k) * length (row_of s row).columns) (strip_of strips row))
+    take (length (row_of s row).numbers) (drop ((24 - k) * length (row_of s row).columns)
+    (strip_of strips row))
 
 -- there is a strip for each row, with room for 36 blocks: 24 new ones, the start, and 11 of zeros behind it
 pub record HasRoom (s : StoredSystem) (strips : List (List ℤ)) : Type 0 where

@@ -15,7 +15,8 @@ abbrev pub new_number : StoredRow → ℕ → (ℕ → ℕ → ℤ) → ℕ → 
 new_number r degree past k =
     floor_of (sum_of_products r.numbers (strip r.columns past (suc degree))) (pos (2 ^ 64 * suc k))
 
--- the start, with 2^64 for the free column: the free number of power k then meets a factor of 2^64 at power k alone
+-- the start, with 2^64 for the free column: the free number of power k then meets a factor of 2^64 at power k
+-- alone
 abbrev pub start_number : List ℤ → ℕ → ℤ
 start_number mid col = slice_index_or (mid ++ pos (2 ^ 64) ∷ []) col (pos 0)
 
@@ -46,5 +47,6 @@ value_to s mid (suc k) row = value_to s mid k row +ℤ coefficient s mid (suc k)
 -- the exact sums of all 24 powers fit, and so do the sums of the coefficients
 pub record ProductsFit (s : StoredSystem) (mid : List ℤ) : Type 0 where
   pub fit : (k row : ℕ) → k < 24 → row < dim_of s
-      → sum_of_sizes (row_of s row).numbers (strip (row_of s row).columns (past s mid k) (suc s.degree)) < 2 ^ 126
+      → sum_of_sizes (row_of s row).numbers (strip (row_of s row).columns (past s mid k) (suc s.degree)) < 2 ^
+      126
   pub start_small : (row : ℕ) → unsigned_abs (slice_index_or mid row (pos 0)) ≤ 2 ^ 66

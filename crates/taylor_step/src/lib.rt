@@ -5,6 +5,8 @@ mod run;
 mod steps;
 mod strips;
 mod taylor;
+#[cfg(test)]
+mod tests;
 mod work;
 
 pub use steps::Steps;

@@ -1,6 +1,7 @@
 // The run of 24 powers on whole numbers.
 
-ghost use Rattle.std.specs.Prelude.{◌≡◌, ℕ, ◌^◌, ◌+◌, ◌-◌, ◌*◌, ◌<◌, ◌≤◌, ◌+ℤ◌, pos, length, take, drop, unsigned_abs, slice_index_or};
+ghost use Rattle.std.specs.Prelude.{◌≡◌, ℕ, ◌^◌, ◌+◌, ◌-◌, ◌*◌, ◌<◌, ◌≤◌, ◌+ℤ◌, pos, length, take, drop};
+ghost use Rattle.std.specs.Prelude.{unsigned_abs, slice_index_or};
 ghost use Rattle.frac_laws.specs.Rounding.{floor_of};
 ghost use Rattle.fixed_num.specs.Products.{sum_of_products, sum_of_sizes};
 ghost use Rattle.linear_system.specs.StoredSystem.{row_of, dim_of};
@@ -17,7 +18,8 @@ fn new_number(numbers: &[i128], strip: &[i128], at: usize, div: u32) -> i128
     requires positive { 1 ≤ div }
     requires small { div ≤ 64 }
     requires fits { sum_of_sizes numbers.now (take (length numbers.now) (drop at strip.now)) < 2 ^ 126 }
-    ensures { result ≡ floor_of (sum_of_products numbers.now (take (length numbers.now) (drop at strip.now))) (pos (2 ^ 64 * div)) }
+    ensures { result ≡ floor_of (sum_of_products numbers.now (take (length numbers.now) (drop at strip.now)))
+        (pos (2 ^ 64 * div)) }
 {
     dot(numbers, &strip[at..at + numbers.len()], div)
 }
@@ -27,9 +29,14 @@ fn new_numbers(sys: &CellSystem, k: usize, strips: &[Vec<i128>], newest: &mut [i
     requires power { k < 24 }
     requires newest { length newest.old ≡ dim_of sys.now + 1 }
     requires room { HasRoom sys.now (contents strips.now) }
-    requires fit { (row : ℕ) → row < dim_of sys.now → sum_of_sizes (row_of sys.now row).numbers (window sys.now (contents strips.now) k row) < 2 ^ 126 }
-    ensures done { (row : ℕ) → row < dim_of sys.now → slice_index_or newest.new row (pos 0) ≡ floor_of (sum_of_products (row_of sys.now row).numbers (window sys.now (contents strips.now) k row)) (pos (2 ^ 64 * (k + 1))) }
-    ensures free { slice_index_or newest.new (dim_of sys.now) (pos 0) ≡ slice_index_or newest.old (dim_of sys.now) (pos 0) }
+    requires fit { (row : ℕ) → row < dim_of sys.now
+        → sum_of_sizes (row_of sys.now row).numbers (window sys.now (contents strips.now) k row) < 2 ^ 126 }
+    ensures done { (row : ℕ) → row < dim_of sys.now
+        → slice_index_or newest.new row (pos 0) ≡ floor_of
+        (sum_of_products (row_of sys.now row).numbers (window sys.now (contents strips.now) k row))
+        (pos (2 ^ 64 * (k + 1))) }
+    ensures free { slice_index_or newest.new (dim_of sys.now) (pos 0) ≡ slice_index_or newest.old
+        (dim_of sys.now) (pos 0) }
 {
     let _degree = sys.degree();
     for i in 0..sys.dim() {
@@ -43,7 +50,8 @@ fn add_all(newest: &[i128], sums: &mut [i128])
     requires lengths { length sums.old ≤ length newest.now }
     requires sums { (i : ℕ) → unsigned_abs (slice_index_or sums.old i (pos 0)) ≤ 2 ^ 90 }
     requires newest { (i : ℕ) → unsigned_abs (slice_index_or newest.now i (pos 0)) ≤ 2 ^ 90 }
-    ensures { (i : ℕ) → i < length sums.old → slice_index_or sums.new i (pos 0) ≡ slice_index_or sums.old i (pos 0) +ℤ slice_index_or newest.now i (pos 0) }
+    ensures { (i : ℕ) → i < length sums.old → slice_index_or sums.new i (pos 0) ≡ slice_index_or sums.old i
+        (pos 0) +ℤ slice_index_or newest.now i (pos 0) }
 {
     for i in 0..sums.len() {
         sums[i] += newest[i];
@@ -57,7 +65,8 @@ pub(crate) fn run(sys: &CellSystem, mid: &mut [i128], newest: &mut [i128], strip
     requires room { HasRoom sys.now (contents strips.old) }
     requires fit { ProductsFit sys.now mid.old }
     ensures room { HasRoom sys.now (contents strips.new) }
-    ensures sums { (row : ℕ) → row < dim_of sys.now → slice_index_or mid.new row (pos 0) ≡ value_to sys.now mid.old 24 row }
+    ensures sums { (row : ℕ) → row < dim_of sys.now
+        → slice_index_or mid.new row (pos 0) ≡ value_to sys.now mid.old 24 row }
 {
     let _degree = sys.degree();
     begin(sys, mid, newest, strips);

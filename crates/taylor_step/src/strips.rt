@@ -1,6 +1,7 @@
 // The history of each row: a strip of blocks, one for each power, the newest block first.
 
-ghost use Rattle.std.specs.Prelude.{◌≡◌, ℕ, ◌+◌, ◌*◌, ◌<◌, ◌≤◌, pos, length, map, slice_index, slice_index_or};
+ghost use Rattle.std.specs.Prelude.{◌≡◌, ℕ, ◌+◌, ◌*◌, ◌<◌, ◌≤◌, pos, length, map, slice_index};
+ghost use Rattle.std.specs.Prelude.{slice_index_or};
 ghost use Rattle.linear_system.specs.StoredSystem.{row_of, dim_of};
 ghost use Rattle.taylor_step.specs.WholeRun.{start_number};
 ghost use Rattle.taylor_step.specs.Strips.{put_at, zeros, contents, HasRoom, IsHistory, HasNewBlocks};
@@ -39,7 +40,8 @@ pub(crate) fn write_blocks(
     requires newest { length newest.now ≡ dim_of sys.now + 1 }
     requires room { HasRoom sys.now (contents strips.old) }
     ensures room { HasRoom sys.now (contents strips.new) }
-    ensures blocks { HasNewBlocks sys.now (contents strips.old) (contents strips.new) block (λ row. map (λ col. slice_index_or newest.now col (pos 0)) (row_of sys.now row).columns) }
+    ensures blocks { HasNewBlocks sys.now (contents strips.old) (contents strips.new) block
+        (λ row. map (λ col. slice_index_or newest.now col (pos 0)) (row_of sys.now row).columns) }
 {
     let _degree = sys.degree();
     for i in 0..sys.dim() {
@@ -52,7 +54,8 @@ pub(crate) fn write_blocks(
 fn write_zero_blocks(sys: &CellSystem, strips: &mut [Vec<i128>])
     requires room { HasRoom sys.now (contents strips.old) }
     ensures room { HasRoom sys.now (contents strips.new) }
-    ensures blocks { HasNewBlocks sys.now (contents strips.old) (contents strips.new) 25 (λ row. zeros (sys.now.degree * length (row_of sys.now row).columns)) }
+    ensures blocks { HasNewBlocks sys.now (contents strips.old) (contents strips.new) 25
+        (λ row. zeros (sys.now.degree * length (row_of sys.now row).columns)) }
 {
     let degree = sys.degree();
     for i in 0..sys.dim() {

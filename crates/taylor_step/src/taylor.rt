@@ -39,10 +39,16 @@ pub fn step<L: Ledger>(
     ensures rounded { IsRoundedValue sys.now mid.old result mid.new }
 
     // Whatever tame system or pair it is that the stored numbers stand for.
-    ensures sup { (e : System) (kappa40 : ℕ) → StandsFor sys.now e → IsTame Sup kappa40 e → Encloses Sup e kappa40 mid.old mid.new result }
-    ensures sum { (e : System) (kappa40 : ℕ) → dim_of sys.now ≤ 12 → StandsFor sys.now e → IsTame Sum kappa40 e → Encloses Sum e kappa40 mid.old mid.new result }
-    ensures first_half { (half : ℕ) (p : CoupledPair) (kappa40 : ℕ) (c : Fraction) → StandsForPair sys.now half p → IsTamePair kappa40 c p → EnclosesFirst p half kappa40 mid.old mid.new result }
-    ensures second_half { (half : ℕ) (p : CoupledPair) (kappa40 : ℕ) (c : Fraction) → StandsForPair sys.now half p → IsTamePair kappa40 c p → EnclosesSecond p half kappa40 c mid.old mid.new result }
+    ensures sup { (e : System) (kappa40 : ℕ) → StandsFor sys.now e → IsTame Sup kappa40 e
+        → Encloses Sup e kappa40 mid.old mid.new result }
+    ensures sum { (e : System) (kappa40 : ℕ) → dim_of sys.now ≤ 12 → StandsFor sys.now e
+        → IsTame Sum kappa40 e → Encloses Sum e kappa40 mid.old mid.new result }
+    ensures first_half { (half : ℕ) (p : CoupledPair) (kappa40 : ℕ) (c : Fraction)
+        → StandsForPair sys.now half p → IsTamePair kappa40 c p
+        → EnclosesFirst p half kappa40 mid.old mid.new result }
+    ensures second_half { (half : ℕ) (p : CoupledPair) (kappa40 : ℕ) (c : Fraction)
+        → StandsForPair sys.now half p → IsTamePair kappa40 c p
+        → EnclosesSecond p half kappa40 c mid.old mid.new result }
 {
     let _degree = sys.degree();
     steps.tick();

@@ -19,7 +19,9 @@ impl Model for Work {
 
     ghost view = { λ w. length w.strips.items };
 
-    ghost invariant = { λ w. (length w.newest.items ≡ length w.strips.items + 1) × ((row : ℕ) → row < length w.strips.items → length (slice_index_or (map (λ v. v.items) w.strips.items) row []) ≡ 36 * (length w.strips.items + 1)) };
+    ghost invariant = { λ w. (length w.newest.items ≡ length w.strips.items + 1) ×
+        ((row : ℕ) → row < length w.strips.items → length
+        (slice_index_or (map (λ v. v.items) w.strips.items) row []) ≡ 36 * (length w.strips.items + 1)) };
 }
 
 fn room_for(alloc: Global, count: usize) -> Result<Vec<i128>, AllocError>

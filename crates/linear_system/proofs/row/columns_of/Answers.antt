@@ -11,12 +11,15 @@ pub loop-col-preserved : goal.loop-col-preserved
 loop-col-preserved c =
     elim c.if-has_place.branch [
       | then-has_place+in_ok-push w ↦
-          taken_one (may_hold c.args.links.now c.args.row) c.args.dim c.loop-col.col c.loop-col.columns.items _
+          taken_one (may_hold c.args.links.now c.args.row) c.args.dim c.loop-col.col c.loop-col.columns.items
+          _
           (ap (λ (v : Vec ℕ Global). v.items) w.columns-is ∙ w.in_ok-push.ensures.items)
           c.loop-col-test.true (sym c.has_place.ensures ∙ w.if-has_place.true) c.loop-col.invariant
       | else-has_place w ↦
-          passed_one (may_hold c.args.links.now c.args.row) c.args.dim c.loop-col.col c.loop-col.columns.items _
-          (ap (λ (v : Vec ℕ Global). v.items) w.columns-is) (sym c.has_place.ensures ∙ w.if-has_place.false) c.loop-col.invariant
+          passed_one (may_hold c.args.links.now c.args.row) c.args.dim c.loop-col.col c.loop-col.columns.items
+          _
+          (ap (λ (v : Vec ℕ Global). v.items) w.columns-is) (sym c.has_place.ensures ∙ w.if-has_place.false)
+          c.loop-col.invariant
     ]
 
 pub returns-clause-columns : goal.returns-clause-columns

@@ -7,6 +7,8 @@ use Rattle.linear_system.specs.StoredSystem.{row_of}
 
 abbrev pub invariant-loop-i : goal.invariant-loop-i
 invariant-loop-i l = record {
-  done : (j : ℕ) → j < l.i → get_or l.newest j (pos 0) ≡ floor_of (sum_of_products (row_of l.sys j).numbers (window l.sys (contents l.strips) l.k j)) (pos (2 ^ 64 * (l.k + 1)));
+  done : (j : ℕ) → j < l.i → get_or l.newest j (pos 0) ≡ floor_of
+      (sum_of_products (row_of l.sys j).numbers (window l.sys (contents l.strips) l.k j))
+      (pos (2 ^ 64 * (l.k + 1)));
   left : (j : ℕ) → l.i ≤ j → get_or l.newest j (pos 0) ≡ get_or l.initial.newest j (pos 0);
 }

@@ -10,7 +10,8 @@ added-zero : (s : StoredSystem) (mid : List ℤ) (i : ℕ) → get_or mid i (pos
 unfolding value_to
 added-zero s mid i = refl
 
-added-more : (s : StoredSystem) (mid : List ℤ) (k i : ℕ) → value_to s mid (suc k) i ≡ value_to s mid k i +ℤ coefficient s mid (suc k) i
+added-more : (s : StoredSystem) (mid : List ℤ) (k i : ℕ)
+    → value_to s mid (suc k) i ≡ value_to s mid k i +ℤ coefficient s mid (suc k) i
 unfolding value_to
 added-more s mid k i = refl
 
@@ -26,21 +27,32 @@ loop-k-init c = record {
 pub add_all-requires-clause-newest : goal.add_all-requires-clause-newest
 add_all-requires-clause-newest c = λ i. omega (
   arith,
-  new_small c.args.sys.now c.args.mid.now c.new_numbers.new.newest c.loop-k.k (contents c.loop-k.strips) c.requires.fit c.loop-k-test.true
-      (c.new_numbers.auto.newest ∙ c.loop-k.auto.newest ∙ c.begin.auto.newest ∙ c.requires.newest) c.loop-k.invariant.history c.new_numbers.ensures.done (c.new_numbers.ensures.free ∙ c.loop-k.invariant.free) i,
+  new_small c.args.sys.now c.args.mid.now c.new_numbers.new.newest c.loop-k.k (contents c.loop-k.strips)
+      c.requires.fit c.loop-k-test.true
+      (c.new_numbers.auto.newest ∙ c.loop-k.auto.newest ∙ c.begin.auto.newest ∙ c.requires.newest)
+      c.loop-k.invariant.history c.new_numbers.ensures.done
+      (c.new_numbers.ensures.free ∙ c.loop-k.invariant.free) i,
 )
 
 pub loop-k-preserved : goal.loop-k-preserved
 loop-k-preserved c =
     let free = c.new_numbers.ensures.free ∙ c.loop-k.invariant.free in
-    let new = new_is c.args.sys.now c.args.mid.now c.new_numbers.new.newest c.loop-k.k (contents c.loop-k.strips) c.loop-k.invariant.history c.new_numbers.ensures.done in
-    let small = new_small c.args.sys.now c.args.mid.now c.new_numbers.new.newest c.loop-k.k (contents c.loop-k.strips) c.requires.fit c.loop-k-test.true
-    (c.new_numbers.auto.newest ∙ c.loop-k.auto.newest ∙ c.begin.auto.newest ∙ c.requires.newest) c.loop-k.invariant.history c.new_numbers.ensures.done free in
+    let new = new_is c.args.sys.now c.args.mid.now c.new_numbers.new.newest c.loop-k.k
+    (contents c.loop-k.strips) c.loop-k.invariant.history c.new_numbers.ensures.done in
+    let small = new_small c.args.sys.now c.args.mid.now c.new_numbers.new.newest c.loop-k.k
+    (contents c.loop-k.strips) c.requires.fit c.loop-k-test.true
+    (c.new_numbers.auto.newest ∙ c.loop-k.auto.newest ∙ c.begin.auto.newest ∙ c.requires.newest)
+    c.loop-k.invariant.history c.new_numbers.ensures.done free in
     let long : length c.loop-k.mid ≡ dim_of c.args.sys.now = c.loop-k.auto.mid ∙ c.requires.mid in
     record {
       room = c.write_blocks.ensures.room;
       free = free;
-      history = rw add-one (history_more c.args.sys.now c.args.mid.now c.new_numbers.new.newest c.loop-k.k (contents c.loop-k.strips) _ c.degree-degree.ensures.system c.loop-k.invariant.room c.loop-k-test.true c.loop-k.invariant.history c.new_numbers.ensures.done free c.write_blocks.ensures.blocks);
-      sums = λ i b. rw add-one (c.add_all.ensures i (rw long b) ∙ ap₂ ◌+ℤ◌ (c.loop-k.invariant.sums i b) (new i b) ∙ sym (added-more c.args.sys.now c.args.mid.now c.loop-k.k i));
-      small = sums_small c.loop-k.mid c.add_all.new.sums c.new_numbers.new.newest c.loop-k.k c.add_all.auto.sums c.add_all.ensures c.loop-k.invariant.small small;
+      history = rw add-one (history_more c.args.sys.now c.args.mid.now c.new_numbers.new.newest c.loop-k.k
+          (contents c.loop-k.strips) _ c.degree-degree.ensures.system c.loop-k.invariant.room
+          c.loop-k-test.true c.loop-k.invariant.history c.new_numbers.ensures.done free
+          c.write_blocks.ensures.blocks);
+      sums = λ i b. rw add-one (c.add_all.ensures i (rw long b) ∙ ap₂ ◌+ℤ◌ (c.loop-k.invariant.sums i b)
+          (new i b) ∙ sym (added-more c.args.sys.now c.args.mid.now c.loop-k.k i));
+      small = sums_small c.loop-k.mid c.add_all.new.sums c.new_numbers.new.newest c.loop-k.k
+          c.add_all.auto.sums c.add_all.ensures c.loop-k.invariant.small small;
     }

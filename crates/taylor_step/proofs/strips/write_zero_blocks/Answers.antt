@@ -7,10 +7,18 @@ use Rattle.linear_system.specs.StoredSystem.{row_of, dim_of}
 
 pub write_zeros-requires : goal.write_zeros-requires
 write_zeros-requires c =
-    let e = strip_is c.args.sys.now c.loop-i.strips c.loop-i.i c.index-strips-i.result _ c.loop-i.invariant.room (omega arith) c.deref_mut.ensures.value in
+    let e = strip_is c.args.sys.now c.loop-i.strips c.loop-i.i c.index-strips-i.result _
+    c.loop-i.invariant.room (omega arith) c.deref_mut.ensures.value in
     let row = c.degree-degree.ensures.system.each c.loop-i.i (omega arith) in
-    zeros_room (dim_of c.args.sys.now) _ _ _ (rw c.degree-degree.ensures.degree c.degree-degree.ensures.system.degree_small) (rw c.columns-width.ensures row.columns.few) (ap length e ∙ c.loop-i.invariant.room.blocks c.loop-i.i (omega arith))
+    zeros_room (dim_of c.args.sys.now) _ _ _ (rw c.degree-degree.ensures.degree
+    c.degree-degree.ensures.system.degree_small) (rw c.columns-width.ensures row.columns.few)
+    (ap length e ∙ c.loop-i.invariant.room.blocks c.loop-i.i (omega arith))
 
 pub loop-i-preserved : goal.loop-i-preserved
-loop-i-preserved c = row_written c.args.sys.now c.loop-i.strips _ c.loop-i.i 25 _ (λ j. zeros (c.args.sys.now.degree * length (row_of c.args.sys.now j).columns)) c.index-strips-i.result c.deref_mut.result.now c.write_zeros.new.strip _ c.loop-i.invariant (omega arith) c.deref_mut.ensures.value
-    (ap (λ cs. 25 * length cs) c.columns-width.ensures) (ap zeros (ap₂ (λ t cs. t * length cs) c.degree-degree.ensures.degree c.columns-width.ensures)) c.write_zeros.ensures
+loop-i-preserved c = row_written c.args.sys.now c.loop-i.strips _ c.loop-i.i 25 _
+    (λ j. zeros (c.args.sys.now.degree * length (row_of c.args.sys.now j).columns)) c.index-strips-i.result
+    c.deref_mut.result.now c.write_zeros.new.strip _ c.loop-i.invariant (omega arith)
+    c.deref_mut.ensures.value
+    (ap (λ cs. 25 * length cs) c.columns-width.ensures)
+    (ap zeros (ap₂ (λ t cs. t * length cs) c.degree-degree.ensures.degree c.columns-width.ensures))
+    c.write_zeros.ensures

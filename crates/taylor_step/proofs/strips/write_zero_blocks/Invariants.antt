@@ -5,4 +5,5 @@ use Rattle.taylor_step.specs.Strips.{zeros, contents}
 use Rattle.linear_system.specs.StoredSystem.{row_of}
 
 abbrev pub invariant-loop-i : goal.invariant-loop-i
-invariant-loop-i l = Shifted l.sys (contents l.strips) (contents l.initial.strips) l.i 25 (λ j. zeros (l.sys.degree * length (row_of l.sys j).columns))
+invariant-loop-i l = Shifted l.sys (contents l.strips) (contents l.initial.strips) l.i 25
+    (λ j. zeros (l.sys.degree * length (row_of l.sys j).columns))

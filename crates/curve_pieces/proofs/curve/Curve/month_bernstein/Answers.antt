@@ -1,8 +1,7 @@
 use Rattle.std.proofs.Common.{◌≡◌, ◌+◌, ◌-◌, length, arith, rules, ap, ◌∙◌}
-use Rattle.frac_laws.specs.Polynomials.{all_over}
-use Rattle.frac_laws.specs.Bernstein.{bernstein_coefficients}
 use Rattle.model_specs.specs.RecordRules.{IsBounded}
-use Rattle.curve_pieces.specs.MonthCoefficients.{in_month}
+use Rattle.model_specs.specs.MonthNumbers.{bernstein_numerators}
+use Rattle.curve_pieces.proofs.Numerators.{numerators_are}
 use Rattle.curve_pieces.proofs.Sizes.{month_fits}
 use Rattle.curve_pieces.proofs.curve.Curve.month_bernstein.Goals as goal
 
@@ -14,14 +13,13 @@ month_bernstein-requires c =
     let fits = month_fits c.in_years.result.c (c.args.month - c.at-piece.result.now.from) six bounded in
     fits
 
-pub returns-clause-coefficients : goal.returns-clause-coefficients
-returns-clause-coefficients c =
-    λ den positive.
-    c.month_bernstein.ensures.polynomial den positive
-    ∙ ap (λ p. bernstein_coefficients (in_month (c.args.month - c.at-piece.result.now.from) (all_over den p)))
-    c.in_years.ensures
-    ∙ ap (λ piece. bernstein_coefficients (in_month (c.args.month - piece.from) (all_over den piece.c)))
-    c.at-piece.ensures.covers
+pub returns-clause-numerators : goal.returns-clause-numerators
+returns-clause-numerators c =
+    let six : length c.in_years.result.c ≡ 6 = search rules in
+    numerators_are c.in_years.result.c c.month_bernstein.result (c.args.month - c.at-piece.result.now.from) six
+    (c.month_bernstein.ensures.polynomial 1 (omega arith))
+    ∙ ap (λ p. bernstein_numerators p (c.args.month - c.at-piece.result.now.from)) c.in_years.ensures
+    ∙ ap (λ piece. bernstein_numerators piece.c (c.args.month - piece.from)) c.at-piece.ensures.covers
 
 pub returns-clause-size : goal.returns-clause-size
 returns-clause-size c =

@@ -8,7 +8,8 @@ swapped n m = grind arith
 pub loop-row-preserved : goal.loop-row-preserved
 loop-row-preserved c =
     let made = c.in_ok-made in
-    push_row c.args.links.now c.args.dim c.args.degree c.loop-row.row c.loop-row.rows.items _ made.made _ c.loop-row.invariant
+    push_row c.args.links.now c.args.dim c.args.degree c.loop-row.row c.loop-row.rows.items _ made.made _
+    c.loop-row.invariant
     c.in_ok-push.ensures.items
     (zero_row made.made.columns.items made.made.numbers.items _ _ _ made.ensures.columns made.ensures.numbers
     (swapped (length made.made.columns.items) c.args.degree))

@@ -1,0 +1,6 @@
+use Rattle.taylor_step.proofs.SampleSteps.{backward_can_step}
+use Rattle.taylor_step.proofs.tests.two_states_backward.Goals as goal
+
+pub one_step-requires-clause-can : goal.one_step-requires-clause-can
+one_step-requires-clause-can g c = backward_can_step c.in_ok-system.system c.in_ok-system.ensures.dim
+    c.in_ok-system.ensures.numbers
