@@ -1,0 +1,5 @@
+pub mod CellParts
+pub mod ControlLists
+pub mod PartBounds
+pub mod PartFacts
+pub mod PartMeans
