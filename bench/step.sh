@@ -14,7 +14,7 @@ gcc -O2 -o "$plain" bench/step.c
 # user seconds of a command, the least of three runs
 seconds() {
     for _ in 1 2 3; do
-        { TIMEFORMAT=%U; bash -c "TIMEFORMAT=%U; time $1" >/dev/null; } 2>&1
+        { bash -c "TIMEFORMAT=%U; time $1" >/dev/null; } 2>&1
     done | sort -n | head -1
 }
 
@@ -22,5 +22,5 @@ for case in "3 $steps" "12 $((steps / 10))"; do
     [ "$(echo "$case" | "$program")" = "$("$plain" $case)" ] || { echo "the two differ at $case"; exit 1; }
     ours=$(seconds "echo $case | $program")
     theirs=$(seconds "$plain $case")
-    echo "$case steps: $ours s here, $theirs s in C, ratio $(echo "scale=2; $ours / $theirs" | bc)"
+    echo "$case steps: $ours s here, $theirs s in C, ratio $(awk "BEGIN { printf \"%.2f\", $ours / $theirs }")"
 done

@@ -116,7 +116,7 @@ fn two_states_backward(rt: HostRuntime) -> Result<(), AllocError> {
 }
 
 #[test]
-fn two_states_forward(rt: HostRuntime) -> Result<(), AllocError> {
+fn two_states_forward_with_free_numbers(rt: HostRuntime) -> Result<(), AllocError> {
     let entries = [
         (0, 0, 0, -108086391056891904),
         (0, 1, 0, 36028797018963968),
@@ -126,13 +126,16 @@ fn two_states_forward(rt: HostRuntime) -> Result<(), AllocError> {
         (0, 1, 1, -2251799813685248),
         (1, 0, 1, -4503599627370496),
         (1, 1, 1, 2251799813685248),
+        (0, 2, 0, 288230376151711744),
+        (1, 2, 0, -144115188075855872),
+        (0, 2, 1, 18014398509481984),
     ];
     let system = filled(rt.alloc(), 2, 1, &[(0, 1), (1, 0)], &entries)?;
     let mut work = Work::new(rt.alloc(), 2)?;
     let mut mid = [13835058055282163712, 4611686018427387904];
     assert_eq!(rt; one_step(&system, &mut mid, &mut work), 24);
-    assert!(rt; mid[0].abs_diff(13764676296117924551) <= RADIUS);
-    assert!(rt; mid[1].abs_diff(4682067777591627065) <= RADIUS);
+    assert!(rt; mid[0].abs_diff(14060943434799570842) <= RADIUS);
+    assert!(rt; mid[1].abs_diff(4538923026240577638) <= RADIUS);
     Ok(())
 }
 
