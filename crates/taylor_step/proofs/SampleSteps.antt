@@ -9,14 +9,14 @@ use mathlib.Core.Quot.{sound}
 use Rattle.frac_laws.specs.Fraction.{Fraction, over, whole, size, ◌+ℚ◌, ◌*ℚ◌, ◌-ℚ◌, ◌≤ℚ◌, opposite}
 use Rattle.frac_laws.specs.Fraction.{is_not_negative, greater}
 use Rattle.frac_laws.specs.Lists.{number_at, vector_at, matrix_at}
-use Rattle.frac_laws.specs.Norms.{Sup}
+use Rattle.frac_laws.specs.Norms.{Sup, Sum}
 use Rattle.frac_laws.proofs.FractionTerms.{ring, terms}
 use Rattle.frac_laws.proofs.Linear.{natural}
 use Rattle.frac_laws.proofs.Norms.{size_zero}
 use Rattle.cell_laws.specs.Samples.{backward_system, forward_system, second_system, sample_pair}
 use Rattle.cell_laws.specs.Systems.{System}
 use Rattle.cell_laws.specs.Tame.{IsTame}
-use Rattle.cell_laws.proofs.Samples.{backward_system_is_tame, forward_system_is_tame, sample_pair_is_tame}
+use Rattle.cell_laws.proofs.Samples.{backward_system_is_tame, sample_pair_is_tame}
 use Rattle.linear_system.specs.Setting.{is_same_place}
 use Rattle.linear_system.specs.StandsFor.{units, MatricesStandNear, VectorsStandNear, StandsFor}
 use Rattle.linear_system.specs.StandsFor.{StandsForPair}
@@ -48,7 +48,10 @@ forward_entries =
     (0, 0, 1, pos 4503599627370496) ∷
     (0, 1, 1, negsuc 2251799813685247) ∷
     (1, 0, 1, negsuc 4503599627370495) ∷
-    (1, 1, 1, pos 2251799813685248) ∷ []
+    (1, 1, 1, pos 2251799813685248) ∷
+    (0, 2, 0, pos 288230376151711744) ∷
+    (1, 2, 0, negsuc 144115188075855871) ∷
+    (0, 2, 1, pos 18014398509481984) ∷ []
 
 abbrev pub pair_entries : List Entry
 pair_entries =
@@ -428,14 +431,37 @@ coupling_matrices_near error stored h = record {
 abbrev Has : StoredSystem → List Entry → Type 0
 Has s entries = (row col m : ℕ) → stored_number s row col m ≡ listed entries row col m
 
-forward_vectors : (stored : ℕ → ℕ → ℤ) → ((row m : ℕ) → row < 2
+-- the forward system with the free numbers of the backward one
+abbrev fed_system : System
+fed_system = record { dimension = 2; matrices = forward_system.matrices; free = backward_system.free }
+
+fed_system_is_tame : IsTame Sum 82932358 fed_system
+unfolding ◌+ℚ◌ ◌*ℚ◌ ◌-ℚ◌ opposite is_not_negative size greater
+fed_system_is_tame = record {
+  total = record { le = refl };
+  matrices = record { le = refl };
+  free = record { le = refl };
+  growth = record { le = refl };
+}
+
+fed_vectors_equal : (m row : ℕ) → row < 2 → number_at (vector_at fed_system.free m) row ≡ units
+    (listed forward_entries row 2 m)
+fed_vectors_equal zero zero b = sound refl
+fed_vectors_equal zero (suc zero) b = sound refl
+fed_vectors_equal zero (suc (suc row)) b = absurd (omega arith)
+fed_vectors_equal (suc zero) zero b = sound refl
+fed_vectors_equal (suc zero) (suc zero) b = sound refl
+fed_vectors_equal (suc zero) (suc (suc row)) b = absurd (omega arith)
+fed_vectors_equal (suc (suc m)) row b =
+    sym (ap units (none_at (λ i j k. nat_le 2 k) forward_entries row 2 (suc (suc m)) refl (late m)) ∙ no_units)
+
+fed_vectors_near : (stored : ℕ → ℕ → ℤ) → ((row m : ℕ) → row < 2
     → stored row m ≡ listed forward_entries row 2 m)
-    → VectorsStandNear 3 2 stored []
-forward_vectors stored h = record {
-  near = λ row m b. exact_near _ _ 3 (sym (ap units
-      (h row m b ∙ none_at (λ i j k. nat_le 2 j) forward_entries row 2 m refl refl) ∙ no_units));
-  rows = λ m. omega arith;
-  no_more = λ row m b. refl;
+    → VectorsStandNear 3 2 stored fed_system.free
+fed_vectors_near stored h = record {
+  near = λ row m b. exact_near _ _ 3 (fed_vectors_equal m row b ∙ ap units (sym (h row m b)));
+  rows = backward_free_rows;
+  no_more = λ row m b. backward_free_no_more m row b;
 }
 
 free_numbers : (s : StoredSystem) (entries : List Entry) (dim : ℕ) → dim_of s ≡ dim → Has s entries
@@ -450,12 +476,12 @@ backward_stands s d h = record {
       (backward_vectors_near (stored_free s) (λ row m b. free_numbers s backward_entries 2 d h row m));
 }
 
-forward_stands : (s : StoredSystem) → dim_of s ≡ 2 → Has s forward_entries → StandsFor s forward_system
-forward_stands s d h = record {
+fed_stands : (s : StoredSystem) → dim_of s ≡ 2 → Has s forward_entries → StandsFor s fed_system
+fed_stands s d h = record {
   dimension = sym d;
   matrices = rw d (forward_matrices_near 1 (stored_number s) (λ row col m b c. h row col m));
-  free = subst (λ n. VectorsStandNear 3 n (stored_free s) []) (sym d)
-      (forward_vectors (stored_free s) (λ row m b. free_numbers s forward_entries 2 d h row m));
+  free = subst (λ n. VectorsStandNear 3 n (stored_free s) fed_system.free) (sym d)
+      (fed_vectors_near (stored_free s) (λ row m b. free_numbers s forward_entries 2 d h row m));
 }
 
 no_feedback : (row col m : ℕ) → row < 2 → 2 ≤ col → col < 4 → listed pair_entries row col m ≡ pos 0
@@ -540,8 +566,7 @@ backward_can_step s d h = in_sup backward_system 280319832 (backward_stands s d 
 pub forward_can_step : (s : StoredSystem) → dim_of s ≡ 2
     → ((row col m : ℕ) → stored_number s row col m ≡ listed forward_entries row col m)
     → CanStep s (pos 13835058055282163712 ∷ pos 4611686018427387904 ∷ [])
-forward_can_step s d h = in_sum forward_system 82932358 (forward_stands s d h) forward_system_is_tame
-    (lit≤ tt)
+forward_can_step s d h = in_sum fed_system 82932358 (fed_stands s d h) fed_system_is_tame (lit≤ tt)
 
 pub pair_can_step : (s : StoredSystem) → dim_of s ≡ 4
     → ((row col m : ℕ) → stored_number s row col m ≡ listed pair_entries row col m)
