@@ -1,6 +1,6 @@
 //! Definitions of the product file: what its tree reads as, rule by rule, and the verdict on its bytes.
 #![tactic(auto)]
 
-mod laws;
+mod read_laws;
 
-pub use laws::nothing;
+pub use read_laws::read_products_are_well_formed;
