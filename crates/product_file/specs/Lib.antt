@@ -5,6 +5,7 @@ pub mod LumpRule
 pub mod Members
 pub mod PatternRules
 pub mod PaymentRules
+pub mod ReadInstances
 pub mod ReadLaws
 pub mod Reads
 pub mod TransitionRule
