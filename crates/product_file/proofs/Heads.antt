@@ -1,9 +1,8 @@
 -- Rules 3 to 6: good names and a good head.
-use Rattle.std.proofs.Common.{◌≡◌, ◌≢◌, ℕ, zero, suc, ◌<◌, ◌≤◌, ◌^◌, List, [], ◌∷◌, length, map, take, get_or}
-use Rattle.std.proofs.Common.{arith, refl, ap, sym, ◌∙◌, subst}
-use Rattle.std.specs.Prelude.{Bool, true, false, ◌&&◌, not, ℤ, pos, codes, nat_le, All, slice_index_or, Option, Some, None}
-use Rattle.std.specs.Prelude.{is_some, unwrap_or, position, bytes_eq, if◌then◌else◌, cond}
-use Rattle.std.specs.List.{list_any, AllPass}
+use Rattle.std.proofs.Common.{◌≡◌, ℕ, suc, ◌<◌, ◌≤◌, ◌^◌, List, [], length, take}
+use Rattle.std.proofs.Common.{arith, refl, sym, ◌∙◌, subst}
+use Rattle.std.specs.Prelude.{Bool, true, false, ◌&&◌, ℤ, pos, codes, nat_le, slice_index_or, Option, Some, None}
+use Rattle.std.specs.Prelude.{is_some, unwrap_or, position, bytes_eq, if◌then◌else◌}
 use Rattle.std.proofs.lemmas.Bool.{true≢false, false≢true, ltb-true, leb-true}
 use Rattle.std.proofs.lemmas.List.{get_or_default}
 use Rattle.std.proofs.lemmas.List.Quantifiers.{position-Some}
@@ -12,8 +11,8 @@ use Rattle.toml.specs.Data.{Members, as_str}
 use Rattle.model_specs.specs.Names.{IsGoodName, is_name_byte}
 use Rattle.model_specs.specs.RecordRules.{AreDistinct, HasGoodNames, HasGoodHead}
 use Rattle.product_file.specs.Checks.{first_failed}
-use Rattle.product_file.specs.Members.{whole_of, text_of, items_of, item_at, is_among}
-use Rattle.product_file.specs.HeadRules.{is_from_to, is_good_name, state_names, is_good_state, most_states}
+use Rattle.product_file.specs.Members.{whole_of, items_of, item_at, is_among}
+use Rattle.product_file.specs.HeadRules.{is_good_name, state_names, is_good_state, most_states}
 use Rattle.product_file.specs.HeadRules.{is_format_1, rule_3, rule_4, rule_5, rule_6, state_of}
 use Rattle.product_file.specs.Reads.{product_of}
 use Rattle.product_file.proofs.Passed.{left-of, right-of, denied, nth-holds, listed-holds, each-passes}
@@ -52,15 +51,17 @@ good_names tree h = record {
   where
     count : (nat_le 1 (length (state_names tree)) && nat_le (length (state_names tree)) (most_states tree)) ≡ true
     count = nth-holds (rule_3 tree) h 1
+
     distinct : AreDistinct [] (state_names tree)
     distinct i j low below equal =
         let differ : is_among (take j (state_names tree)) (slice_index_or (state_names tree) j []) ≡ false =
-            denied _ (right-of (is_some (as_str (item_at (items_of (codes "states") tree) j))
-                && is_good_name 24 (slice_index_or (state_names tree) j [])) _ (state-holds tree h j below)) in
+        denied _ (right-of (is_some (as_str (item_at (items_of (codes "states") tree) j))
+        && is_good_name 24 (slice_index_or (state_names tree) j [])) _ (state-holds tree h j below)) in
         let same : bytes_eq (slice_index_or (state_names tree) j []) (slice_index_or (state_names tree) i []) ≡ true =
-            (bytes_eq-Decides (slice_index_or (state_names tree) j []) (slice_index_or (state_names tree) i [])).1 (sym equal) in
+        (bytes_eq-Decides (slice_index_or (state_names tree) j []) (slice_index_or (state_names tree) i [])).1
+        (sym equal) in
         true≢false (sym same ∙ none-passes (bytes_eq (slice_index_or (state_names tree) j [])) (state_names tree) j i []
-            differ low (omega (arith, below)))
+        differ low (omega (arith, below)))
 
 -- an index that is there is inside
 pub index_inside : (tree : Members) (name : List ℕ) → is_some (state_of tree name) ≡ true
@@ -77,14 +78,17 @@ pub good_head : (tree : Members) → first_failed (rule_4 tree) ≡ None → fir
 good_head tree h4 h5 h6 = record {
   some_month = natural_some months (left-of _ _ (nth-holds (rule_4 tree) h4 0));
   at_most_a_century =
-      natural_most months (pos 1200) (some_natural months (left-of _ _ (nth-holds (rule_4 tree) h4 0))) (right-of _ _ (nth-holds (rule_4 tree) h4 0));
+      natural_most months (pos 1200) (some_natural months (left-of _ _ (nth-holds (rule_4 tree) h4 0)))
+      (right-of _ _ (nth-holds (rule_4 tree) h4 0));
   some_denominator = natural_some den (left-of _ _ (nth-holds (rule_5 tree) h5 0));
   largest_denominator =
-      natural_most den (pos (10 ^ 12)) (some_natural den (left-of _ _ (nth-holds (rule_5 tree) h5 0))) (right-of _ _ (nth-holds (rule_5 tree) h5 0));
+      natural_most den (pos (10 ^ 12)) (some_natural den (left-of _ _ (nth-holds (rule_5 tree) h5 0))) (right-of _ _
+      (nth-holds (rule_5 tree) h5 0));
   start = index_inside tree _ (nth-holds (rule_6 tree) h6 0);
 }
   where
     months : ℤ
     months = whole_of (codes "months") tree
+
     den : ℤ
     den = whole_of (codes "den") tree

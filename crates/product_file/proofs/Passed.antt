@@ -1,13 +1,13 @@
 -- Where no check fails, each holds.
-use Rattle.std.proofs.Common.{◌≡◌, ◌≢◌, ℕ, zero, suc, ◌+◌, ◌<◌, ◌≤◌, List, [], ◌∷◌, ◌++◌, length, map, take}
-use Rattle.std.proofs.Common.{arith, refl, ap, sym}
+use Rattle.std.proofs.Common.{◌≡◌, ℕ, zero, suc, ◌+◌, ◌<◌, ◌≤◌, List, [], ◌∷◌, ◌++◌, length, map, take}
+use Rattle.std.proofs.Common.{arith, refl, sym}
 use Rattle.std.proofs.lemmas.Bool.{true≢false, false≢true}
 use Rattle.std.proofs.lemmas.Option.{none-some}
 use Rattle.std.specs.Prelude.{Bool, true, false, ◌&&◌, ◌||◌, not, Option, Some, None, option_map, All, slice_index_or}
 use Rattle.std.specs.List.{list_all, list_any}
-use Rattle.model_specs.specs.Whole.{list_of, places}
-use Rattle.model_specs.specs.ValuationRules.{first_given, RuleBreak}
-use Rattle.product_file.specs.Checks.{first_failed, first_failed_from, first_failed_of_lists, place_in}
+use Rattle.model_specs.specs.Whole.{list_of}
+use Rattle.model_specs.specs.ValuationRules.{first_given}
+use Rattle.product_file.specs.Checks.{first_failed, first_failed_from, place_in}
 use Rattle.product_file.specs.CurveRules.{not_empty}
 use Rattle.product_file.specs.Reads.{broken_at}
 

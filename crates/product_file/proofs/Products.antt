@@ -1,5 +1,5 @@
 -- A product that a tree reads as is well formed.
-use Rattle.std.proofs.Common.{◌≡◌, refl, ap, sym, subst, ◌∙◌}
+use Rattle.std.proofs.Common.{◌≡◌, refl, ap, subst}
 use Rattle.std.specs.Prelude.{Option, Some, None, Result, Ok, Err}
 use Rattle.std.specs.Prelude.{is_ok}
 use Rattle.std.proofs.lemmas.Bool.{false≢true}
@@ -94,6 +94,7 @@ read_is_unbroken tree product h = by-break (broken_in_tree tree) h
     value_or : Product → Result Product RuleBreak → Product
     value_or other (Ok p) = p
     value_or other (Err x) = other
+
     by-break : (o : Option RuleBreak) → product_unless (product_of tree) o ≡ Ok product
         → (o ≡ None) × (product_of tree ≡ product)
     by-break None e = (refl, ap (value_or (product_of tree)) e)
@@ -102,4 +103,4 @@ read_is_unbroken tree product h = by-break (broken_in_tree tree) h
 pub read_products_are_well_formed : ReadProductsAreWellFormed
 read_products_are_well_formed tree product h =
     subst IsWellFormed (read_is_unbroken tree product h).1
-        (product_is_well_formed tree (read_is_unbroken tree product h).0)
+    (product_is_well_formed tree (read_is_unbroken tree product h).0)

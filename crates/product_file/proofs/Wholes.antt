@@ -1,7 +1,7 @@
 -- Whole numbers that are not negative, and lists whose members differ.
-use Rattle.std.proofs.Common.{◌≡◌, ◌≢◌, ℕ, zero, suc, ◌<◌, ◌≤◌, List, [], ◌∷◌, length, map, take, get_or}
+use Rattle.std.proofs.Common.{◌≡◌, ℕ, ◌<◌, ◌≤◌, List, [], ◌∷◌, length, map, take, get_or}
 use Rattle.std.proofs.Common.{arith, refl, ap, sym, subst, ◌∙◌}
-use Rattle.std.specs.Prelude.{Bool, true, false, ◌||◌, nat_le, ℤ, pos, negsuc, int_le, int_lt, slice_index_or}
+use Rattle.std.specs.Prelude.{Bool, true, false, ◌||◌, ℤ, pos, negsuc, int_le, int_lt}
 use Rattle.std.specs.List.{list_any}
 use Rattle.std.proofs.lemmas.Bool.{true≢false, false≢true, ltb-true, leb-true, le-leb}
 use Rattle.std.proofs.lemmas.List.{get_or-map, length-map}
@@ -53,12 +53,12 @@ pub distinct_values : {A B : Type 0} (bare : B) (f : A → B) (same : B → B �
 distinct_values bare f same items d always differ i j low below equal =
     let inside : j < length items = subst (λ n. j < n) (length-map items f) below in
     let first : get_or (map f items) i bare ≡ f (get_or items i d) =
-        get_or-map f items i d bare (omega (arith, inside)) in
+    get_or-map f items i d bare (omega (arith, inside)) in
     let second : get_or (map f items) j bare ≡ f (get_or items j d) = get_or-map f items j d bare inside in
     let one : f (get_or items i d) ≡ f (get_or items j d) = sym first ∙ equal ∙ second in
     true≢false (sym (always (f (get_or items j d)))
-        ∙ ap (same (f (get_or items j d))) (sym one)
-        ∙ none-passes (λ e. same (f (get_or items j d)) (f e)) items j i d (differ j inside) low (omega (arith, inside)))
+    ∙ ap (same (f (get_or items j d))) (sym one)
+    ∙ none-passes (λ e. same (f (get_or items j d)) (f e)) items j i d (differ j inside) low (omega (arith, inside)))
 
 -- a test of the values is a test of the items
 pub any-map : {A B : Type 0} (test : B → Bool) (f : A → B) (xs : List A)
