@@ -2,6 +2,7 @@
 use Rattle.std.specs.Prelude.{ℕ, List, map, Vec}
 use Rattle.std.specs.declared.alloc.Global.{Global}
 use Rattle.model_specs.specs.Product as model
+use Rattle.model_specs.specs.RecordRules.{step_starts}
 use Rattle.payment_plan.specs.declared.step.StepAmount.{StepAmount}
 use Rattle.payment_plan.specs.declared.lump.Lump.{Lump}
 use Rattle.payment_plan.specs.declared.pattern.PatternRule.{PatternRule}
@@ -14,6 +15,10 @@ record_of s = record { from = s.from; c = s.c }
 -- the steps as plain records
 abbrev pub steps_of : List StepAmount → List model.Step
 steps_of steps = map record_of steps
+
+-- the months at which they start
+abbrev pub starts_of : List StepAmount → List ℕ
+starts_of steps = step_starts (steps_of steps)
 
 -- the sum of each transition
 abbrev pub sums_of : List (Vec StepAmount Global) → List (List model.Step)

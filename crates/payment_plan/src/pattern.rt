@@ -1,5 +1,9 @@
 //! The premium pattern, and which of the two plans is meant.
 
+ghost use Rattle.std.specs.Prelude.{◌≡◌, nat_lt, list_any, ◌==◌, ◌&&◌};
+ghost use Rattle.payment_plan.specs.Records.{pattern_rule_of};
+ghost use Rattle.payment_plan.specs.Tables.{pays_in_month, pays_at_date};
+
 /// Which payments: those of the file, or the premium pattern with unit amounts.
 #[derive(Clone, Copy, Debug, PartialEq, Eq)]
 pub enum Which {
@@ -15,4 +19,20 @@ pub struct PatternRule {
     pub payers: Vec<usize>,
     pub until: u32,
     pub every: u32,
+}
+
+impl PatternRule {
+    // Whether the pattern pays continuously in a state in a month.
+    pub(crate) fn pays_in(&self, state: usize, month: u32) -> bool
+        ensures { result ≡ pays_in_month (pattern_rule_of self.now) state month }
+    {
+        self.every == 0 && month < self.until && self.payers.contains(&state)
+    }
+
+    // Whether the pattern pays in the payer states at a date.
+    pub(crate) fn pays_at(&self, date: u32) -> bool
+        ensures { result ≡ pays_at_date (pattern_rule_of self.now) date }
+    {
+        self.every != 0 && date < self.until && date % self.every == 0
+    }
 }
