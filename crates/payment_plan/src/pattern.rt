@@ -1,6 +1,6 @@
 //! The premium pattern, and which of the two plans is meant.
 
-ghost use Rattle.std.specs.Prelude.{◌≡◌, nat_lt, list_any, ◌==◌, ◌&&◌};
+ghost use Rattle.std.specs.Prelude.{◌≡◌};
 ghost use Rattle.payment_plan.specs.Records.{pattern_rule_of};
 ghost use Rattle.payment_plan.specs.Tables.{pays_in_month, pays_at_date};
 
