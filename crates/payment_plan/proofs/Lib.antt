@@ -1,3 +1,5 @@
 pub mod Covering
+pub mod FourCoefficients
 pub mod Lookups
+pub mod Shifts
 pub mod Starts

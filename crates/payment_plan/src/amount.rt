@@ -1,6 +1,6 @@
 //! Amounts in a cell of a month.
 
-ghost use Rattle.std.specs.Prelude.{◌≡◌, ℕ, ◌+◌, ◌-◌, ◌^◌, ◌<◌, ◌≤◌, pos, [], ◌∷◌, ◌++◌};
+ghost use Rattle.std.specs.Prelude.{◌≡◌, ℕ, ◌+◌, ◌-◌, ◌^◌, ◌<◌, ◌≤◌, pos, ◌*ℤ◌, [], ◌∷◌, ◌++◌};
 ghost use Rattle.frac_laws.specs.Polynomials.{all_over};
 ghost use Rattle.poly_small.specs.WholePolynomials.{value_of_sizes, in_units_of};
 ghost use Rattle.model_specs.specs.Cells as cells;
@@ -11,21 +11,28 @@ use crate::step::StepAmount;
 use poly_small::Poly;
 
 // 384 cells are a year.
-const CELLS: i128 = 384;
+const CELLS: u32 = 384;
+
+// c * factor
+fn times(c: i64, factor: u32) -> i128
+    ensures { result ≡ c *ℤ pos factor }
+{
+    i128::from(c) * i128::from(factor)
+}
 
 // The polynomial of the cells since the start, over 384^3.
 fn in_cells(s: &StepAmount) -> Poly
     ensures { result.c ≡ in_units_of 384 s.now.c ++ pos 0 ∷ pos 0 ∷ [] }
 {
-    let [c0, c1, c2, c3, c4, c5] = s.in_years().c;
+    let [c0, c1, c2, c3] = s.c;
     Poly {
         c: [
-            c0 * CELLS * CELLS * CELLS,
-            c1 * CELLS * CELLS,
-            c2 * CELLS,
-            c3,
-            c4,
-            c5,
+            times(c0, CELLS * CELLS * CELLS),
+            times(c1, CELLS * CELLS),
+            times(c2, CELLS),
+            times(c3, 1),
+            0,
+            0,
         ],
     }
 }
