@@ -1,12 +1,11 @@
 //! Loads: how much a payment weighs in a month.
 
-ghost use Rattle.std.specs.Prelude.{◌≡◌, ◌+◌, ◌-◌, ◌*◌, ◌^◌, ◌<◌, ◌≤◌, pos, ◌-ℤ◌, map, All, unsigned_abs};
+ghost use Rattle.std.specs.Prelude.{◌≡◌, ◌+◌, ◌-◌, ◌*◌, ◌^◌, ◌<◌, ◌≤◌, pos, ◌-ℤ◌, map, unsigned_abs};
 ghost use Rattle.model_specs.specs.Whole.{greatest_natural, greatest_whole, least_whole, natural_part};
-ghost use Rattle.model_specs.specs.MonthNumbers.{bernstein_numerators};
 ghost use Rattle.model_specs.specs.Growth.{load};
 ghost use Rattle.model_specs.specs.RecordRules.{IsBoundedStep};
 ghost use Rattle.payment_plan.specs.Records.{record_of};
-ghost use Rattle.payment_plan.specs.Loads.{load_of_numerators};
+ghost use Rattle.payment_plan.specs.Loads.{AreWithin, load_of_numerators};
 
 use crate::step::StepAmount;
 
@@ -21,20 +20,33 @@ fn greatest_size(numbers: &[i128; 6]) -> u128
     a.max(b.max(c.max(d.max(e.max(f)))))
 }
 
-// How far the greatest of six numbers is above the least.
-fn spread(numbers: &[i128; 6]) -> u128
-    requires { All (λ n. unsigned_abs n ≤ 10 ^ 12 * 2488320) numbers.now }
-    ensures { result ≡ natural_part (greatest_whole numbers.now -ℤ least_whole numbers.now) }
+// The greatest of six numbers.
+fn greatest(numbers: &[i128; 6]) -> i128
+    ensures { result ≡ greatest_whole numbers.now }
 {
     let [a, b, c, d, e, f] = *numbers;
-    let greatest = a.max(b.max(c.max(d.max(e.max(f)))));
-    let least = a.min(b.min(c.min(d.min(e.min(f)))));
-    (greatest - least) as u128
+    a.max(b.max(c.max(d.max(e.max(f)))))
+}
+
+// The least of six numbers.
+fn least(numbers: &[i128; 6]) -> i128
+    ensures { result ≡ least_whole numbers.now }
+{
+    let [a, b, c, d, e, f] = *numbers;
+    a.min(b.min(c.min(d.min(e.min(f)))))
+}
+
+// How far the greatest of six numbers is above the least.
+fn spread(numbers: &[i128; 6]) -> u128
+    requires { AreWithin numbers.now }
+    ensures { result ≡ natural_part (greatest_whole numbers.now -ℤ least_whole numbers.now) }
+{
+    (greatest(numbers) - least(numbers)) as u128
 }
 
 // The load of a payment with these Bernstein numerators.
 fn load_of(numbers: &[i128; 6]) -> i128
-    requires { All (λ n. unsigned_abs n ≤ 10 ^ 12 * 2488320) numbers.now }
+    requires { AreWithin numbers.now }
     ensures value { result ≡ pos (load_of_numerators numbers.now) }
     ensures most { load_of_numerators numbers.now ≤ 9 * 10 ^ 12 }
 {
