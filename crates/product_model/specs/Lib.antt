@@ -1,3 +1,4 @@
-pub mod Parts
+pub mod LawfulParts
 pub mod PartLaws
+pub mod Parts
 pub mod Views

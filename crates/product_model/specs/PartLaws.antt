@@ -1,9 +1,9 @@
 -- What a product's parts say is what the product says.
-use Rattle.std.specs.Prelude.{◌≡◌, ℕ, List, length, map}
+use Rattle.std.specs.Prelude.{◌≡◌, ℕ}
 use Rattle.model_specs.specs.Product.{Product, transition_at}
 use Rattle.model_specs.specs.MonthNumbers.{exits}
 use Rattle.model_specs.specs.Payments.{payment_plan, pattern_plan}
-use Rattle.state_graph.specs.StateGraphs.{edge_at, name_at}
+use Rattle.state_graph.specs.StateGraphs.{edge_at}
 use Rattle.state_graph.specs.Exits.{exits_of}
 use Rattle.payment_plan.specs.Payments.{benefits_of, pattern_of}
 use Rattle.product_model.specs.Views.{graph_of, payments_of}

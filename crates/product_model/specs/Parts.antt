@@ -1,8 +1,8 @@
 -- The parts of a product, and the product that they make.
-use Rattle.std.specs.Prelude.{◌≡◌, ℕ, ◌<◌, ◌≤◌, ◌^◌, List, [], All, length, slice_index_or}
-use Rattle.model_specs.specs.Whole.{list_of}
+use Rattle.std.specs.Prelude.{◌≡◌, ℕ, ◌<◌, ◌≤◌, ◌^◌, ℤ, List, [], All, length, slice_index_or}
+use Rattle.model_specs.specs.Whole.{list_of, natural_part}
 use Rattle.model_specs.specs.Names.{IsGoodName}
-use Rattle.model_specs.specs.Product.{Product, Transition, Step}
+use Rattle.model_specs.specs.Product.{Product, Transition}
 use Rattle.model_specs.specs.RecordRules.{IsWellFormed}
 use Rattle.curve_pieces.specs.PiecewiseCurves.{PiecewiseCurve}
 use Rattle.state_graph.specs.StateGraphs.{StateGraph, edge_at}
@@ -19,6 +19,19 @@ pub record Parts : Type 0 where
   pub interest : PiecewiseCurve
   pub rates : List PiecewiseCurve
   pub payments : Payments
+
+-- the parts in the order in which a product is made of them
+abbrev pub parts_of : List ℕ → StateGraph → ℕ → ℕ → ℤ → PiecewiseCurve → List PiecewiseCurve → Payments → Parts
+parts_of name graph start months den interest rates payments = record {
+  name = name;
+  graph = graph;
+  start = start;
+  months = months;
+  den = natural_part den;
+  interest = interest;
+  rates = rates;
+  payments = payments;
+}
 
 -- stands for a curve that there is not
 abbrev pub no_curve : PiecewiseCurve

@@ -1,5 +1,5 @@
 -- The parts of a product, as its record says them.
-use Rattle.std.specs.Prelude.{ℕ, List, length, map}
+use Rattle.std.specs.Prelude.{List, length, map}
 use Rattle.model_specs.specs.Curve.{Piece}
 use Rattle.model_specs.specs.Product.{Product}
 use Rattle.curve_pieces.specs.PiecewiseCurves.{PiecewiseCurve}

@@ -2,13 +2,10 @@
 #![tactic(auto)]
 
 mod breaks;
+mod lawful;
 mod laws;
-mod parts;
 mod product;
 
 pub use breaks::{RowBreak, RuleBreak};
 pub use laws::{exits_agree, pairs_agree, plans_agree};
 pub use product::Product;
-
-#[cfg(test)]
-mod tests;
