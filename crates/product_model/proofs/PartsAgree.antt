@@ -12,7 +12,8 @@ use Rattle.product_model.specs.Parts.{Parts, FitTogether, no_curve, product_of_p
 use Rattle.product_model.specs.Views.{graph_of, curve_of, payments_of}
 use Rattle.product_model.proofs.PlacedLists.{map-list_of, list_of_places}
 
-pub edges_of_parts : (parts : Parts) → map (λ t. (t.from, t.to)) (product_of_parts parts).transitions ≡ parts.graph.edges
+pub edges_of_parts : (parts : Parts)
+    → map (λ t. (t.from, t.to)) (product_of_parts parts).transitions ≡ parts.graph.edges
 edges_of_parts parts =
     map-list_of (λ t. (t.from, t.to)) (length parts.graph.edges) (transition_of_parts parts)
     ∙ list_of_places parts.graph.edges (0, 0)

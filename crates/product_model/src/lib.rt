@@ -9,3 +9,6 @@ mod product;
 pub use breaks::{RowBreak, RuleBreak};
 pub use laws::{exits_agree, pairs_agree, plans_agree};
 pub use product::Product;
+
+#[cfg(test)]
+mod tests;

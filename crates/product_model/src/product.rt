@@ -31,9 +31,11 @@ impl Model for Product {
 
     ghost Value = { model.Product };
 
-    ghost view = { λ p. product_of_parts (parts_of p.name.items p.graph p.start p.months p.den p.interest p.rates.items p.plan) };
+    ghost view = { λ p. product_of_parts
+        (parts_of p.name.items p.graph p.start p.months p.den p.interest p.rates.items p.plan) };
 
-    ghost invariant = { λ p. KeepsRules (parts_of p.name.items p.graph p.start p.months p.den p.interest p.rates.items p.plan) };
+    ghost invariant = { λ p. KeepsRules
+        (parts_of p.name.items p.graph p.start p.months p.den p.interest p.rates.items p.plan) };
 }
 
 impl Product {
