@@ -3,6 +3,7 @@ pub mod Bounds
 pub mod Causes
 pub mod Cells
 pub mod Covering
+pub mod LawfulCurves
 pub mod Lookups
 pub mod Numerators
 pub mod Sizes

@@ -1,5 +1,5 @@
 -- What contracts see of a curve.
-use Rattle.std.specs.Prelude.{ℕ, ◌≤◌, List}
+use Rattle.std.specs.Prelude.{◌≡◌, ℕ, ◌≤◌, List, All, length}
 use Rattle.model_specs.specs.Curve.{Piece}
 use Rattle.model_specs.specs.RecordRules.{piece_starts}
 use Rattle.curve_pieces.specs.BrokenRules.{StartsInOrder, IsBoundedAt}
@@ -15,3 +15,8 @@ pub record IsAllowed (c : PiecewiseCurve) : Type 0 where
   pub most_months : c.months ≤ 1200
   pub in_order : (i : ℕ) → StartsInOrder c.months (piece_starts c.pieces) i
   pub bounded : (i : ℕ) → IsBoundedAt c.months c.pieces i
+
+-- what each curve keeps: six coefficients a piece, its term, and rules 8 and 9
+pub record KeepsRules (c : PiecewiseCurve) : Type 0 where
+  pub six : All (λ piece. length piece.c ≡ 6) c.pieces
+  pub allowed : IsAllowed c

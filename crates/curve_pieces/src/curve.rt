@@ -5,7 +5,7 @@ ghost use Rattle.std.specs.Prelude.{unsigned_abs, slice_index_or};
 ghost use Rattle.frac_laws.specs.Polynomials.{all_over};
 ghost use Rattle.model_specs.specs.Curve.{piece_at};
 ghost use Rattle.model_specs.specs.Cells.{cells_of_32, curve_cell};
-ghost use Rattle.model_specs.specs.RecordRules.{IsBounded};
+ghost use Rattle.model_specs.specs.RecordRules.{IsBounded, IsBoundedCurve, IsCurve};
 ghost use Rattle.model_specs.specs.MonthNumbers.{curve_numerators};
 ghost use Rattle.curve_pieces.specs.Directions.{direction_of};
 ghost use Rattle.poly_small.specs.WholePolynomials.{value_of_sizes};
@@ -15,7 +15,7 @@ ghost use Rattle.curve_pieces.specs.BrokenRules.{StartsInOrder, IsBoundedAt, IsF
 
 use crate::cell::{CellPoly, Dir, origin, turned};
 use crate::piece::Piece;
-use crate::rules::{first_out_of_order, first_unbounded, last_start};
+use crate::rules::{first_out_of_order, first_unbounded, have_six, last_start};
 use std::alloc::Global;
 use std::marker::Model;
 
@@ -37,13 +37,13 @@ pub struct Curve {
 
 impl Model for Curve {
     ghost use Rattle.curve_pieces.specs.Records.{records_of};
-    ghost use Rattle.curve_pieces.specs.PiecewiseCurves.{PiecewiseCurve, IsAllowed};
+    ghost use Rattle.curve_pieces.specs.PiecewiseCurves.{PiecewiseCurve, KeepsRules};
 
     ghost Value = { PiecewiseCurve };
 
     ghost view = { λ c. record { pieces = records_of c.pieces.items; months = c.months } };
 
-    ghost invariant = { λ c. IsAllowed (record { pieces = records_of c.pieces.items; months = c.months }) };
+    ghost invariant = { λ c. KeepsRules (record { pieces = records_of c.pieces.items; months = c.months }) };
 }
 
 impl Curve {
@@ -62,7 +62,18 @@ impl Curve {
         if let Some(index) = first_unbounded(&pieces, months) {
             return Err(CurveError::Rule(9, index));
         }
+        have_six(&pieces);
         Ok(Curve { pieces, months })
+    }
+
+    /// The term, in months.
+    pub fn months(&self) -> u32
+        ensures value { result ≡ self.now.months }
+        ensures lawful { IsAllowed self.now }
+        ensures rule_8 { IsCurve self.now.months self.now.pieces }
+        ensures rule_9 { IsBoundedCurve self.now.months self.now.pieces }
+    {
+        self.months
     }
 
     /// The pieces, in the file's order.

@@ -1,6 +1,6 @@
 //! The first piece that breaks a rule.
 
-ghost use Rattle.std.specs.Prelude.{◌≡◌, ℕ, ◌+◌, ◌<◌, ◌≤◌, ◌↔◌, IsTrue, IfSome, IfNone, length, slice_index, slice_index_or};
+ghost use Rattle.std.specs.Prelude.{◌≡◌, ℕ, ◌+◌, ◌<◌, ◌≤◌, ◌↔◌, All, IsTrue, IfSome, IfNone, length, slice_index, slice_index_or};
 ghost use Rattle.model_specs.specs.RecordRules.{IsBounded};
 ghost use Rattle.curve_pieces.specs.Records.{record_of, records_of, starts_of};
 ghost use Rattle.curve_pieces.specs.BrokenRules.{StartsInOrder, IsBoundedAt, IsFirstBroken};
@@ -116,4 +116,20 @@ pub(crate) fn last_start(pieces: &[Piece], month: u32) -> usize
         }
     }
     low
+}
+
+// The first coefficient is read so that a proof knows of the array and its length.
+fn first_coefficient(piece: &Piece) -> i64
+    ensures { length piece.now.c ≡ 6 }
+{
+    piece.c[0]
+}
+
+/// Each piece has six coefficients, as its type says. A proof learns it from reading each.
+pub(crate) fn have_six(pieces: &[Piece])
+    ensures { All (λ piece. length piece.c ≡ 6) (records_of pieces.now) }
+{
+    for piece in pieces {
+        let _first = first_coefficient(piece);
+    }
 }

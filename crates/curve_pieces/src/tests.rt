@@ -76,6 +76,7 @@ fn cells_and_months(rt: HostRuntime) -> Result<(), Fail> {
     let made = Curve::new(alloc, [QUINTIC, LATER].to_vec(alloc)?, 60);
     assert!(rt; made.is_ok());
     if let Ok(curve) = made {
+        assert_eq!(rt; curve.months(), 60);
         assert_eq!(rt; curve.pieces(), [QUINTIC, LATER].as_slice());
         assert_eq!(rt; *curve.at(39), QUINTIC);
         assert_eq!(rt; *curve.at(40), LATER);

@@ -8,8 +8,8 @@ pub last_start-requires : goal.last_start-requires
 last_start-requires c =
     rw c.deref.ensures.value
     (record {
-      some = omega (arith, length-starts c.self.inside.pieces.items, (c.self.invariant.in_order 0).0);
-      first = omega (arith, (c.self.invariant.in_order 0).1);
+      some = omega (arith, length-starts c.self.inside.pieces.items, (c.self.invariant.allowed.in_order 0).0);
+      first = omega (arith, (c.self.invariant.allowed.in_order 0).1);
     })
 
 pub returns-clause-covers : goal.returns-clause-covers
@@ -17,7 +17,7 @@ returns-clause-covers c =
     let view = c.self.view_is in
     let found : IsFound c.self.inside.pieces.items c.self.inside.months c.args.month c.last_start.result c.index.result.now =
     record {
-      allowed = c.self.invariant;
+      allowed = c.self.invariant.allowed;
       term = omega (arith, c.requires, ap (λ v. v.months) view);
       inside = rw c.deref.ensures.value at c.last_start.ensures.inside;
       piece_is = c.index.ensures;
@@ -31,7 +31,7 @@ returns-clause-started c =
     let view = c.self.view_is in
     let found : IsFound c.self.inside.pieces.items c.self.inside.months c.args.month c.last_start.result c.index.result.now =
     record {
-      allowed = c.self.invariant;
+      allowed = c.self.invariant.allowed;
       term = omega (arith, c.requires, ap (λ v. v.months) view);
       inside = rw c.deref.ensures.value at c.last_start.ensures.inside;
       piece_is = c.index.ensures;
@@ -45,7 +45,7 @@ returns-clause-bounded c =
     let view = c.self.view_is in
     let found : IsFound c.self.inside.pieces.items c.self.inside.months c.args.month c.last_start.result c.index.result.now =
     record {
-      allowed = c.self.invariant;
+      allowed = c.self.invariant.allowed;
       term = omega (arith, c.requires, ap (λ v. v.months) view);
       inside = rw c.deref.ensures.value at c.last_start.ensures.inside;
       piece_is = c.index.ensures;

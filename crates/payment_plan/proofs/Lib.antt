@@ -1,0 +1,8 @@
+pub mod Covering
+pub mod Extremes
+pub mod FourCoefficients
+pub mod Lookups
+pub mod Numerators
+pub mod Shifts
+pub mod Sizes
+pub mod Starts

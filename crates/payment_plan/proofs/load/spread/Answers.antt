@@ -1,0 +1,34 @@
+use Rattle.std.proofs.Common.{◌≡◌, ◌-ℤ◌, FitsSigned, arith, rules}
+use Rattle.std.specs.Int.{w128}
+use Rattle.std.proofs.lemmas.Int.{to_z-of_z, ints, fits_signed_from_abs}
+use Rattle.payment_plan.proofs.Extremes.{AreExtremes, extremes_apart, extremes_differ, cast_fits}
+use Rattle.payment_plan.proofs.load.spread.Goals as goal
+
+pub overflow_sub-result : goal.overflow_sub-result
+overflow_sub-result c =
+    let wide-1 : FitsSigned w128 c.greatest.result = search rules in
+    let wide-2 : FitsSigned w128 c.least.result = search rules in
+    let extremes : AreExtremes c.args.numbers.now c.greatest.result c.least.result =
+    record { within = c.requires; greatest = c.greatest.ensures; least = c.least.ensures } in
+    simp to_z-of_z
+    (fits_signed_from_abs w128 (c.greatest.result -ℤ c.least.result) (omega (arith, (extremes_apart _ _ _ extremes).1)))
+
+pub overflow_cast-result : goal.overflow_cast-result
+overflow_cast-result c =
+    let wide-1 : FitsSigned w128 c.greatest.result = search rules in
+    let wide-2 : FitsSigned w128 c.least.result = search rules in
+    let extremes : AreExtremes c.args.numbers.now c.greatest.result c.least.result =
+    record { within = c.requires; greatest = c.greatest.ensures; least = c.least.ensures } in
+    let wide : FitsSigned w128 (c.greatest.result -ℤ c.least.result) =
+    fits_signed_from_abs w128 (c.greatest.result -ℤ c.least.result) (omega (arith, (extremes_apart _ _ _ extremes).1)) in
+    simp to_z-of_z (cast_fits _ _ _ extremes)
+
+pub returns : goal.returns
+returns c =
+    let wide-1 : FitsSigned w128 c.greatest.result = search rules in
+    let wide-2 : FitsSigned w128 c.least.result = search rules in
+    let extremes : AreExtremes c.args.numbers.now c.greatest.result c.least.result =
+    record { within = c.requires; greatest = c.greatest.ensures; least = c.least.ensures } in
+    let wide : FitsSigned w128 (c.greatest.result -ℤ c.least.result) =
+    fits_signed_from_abs w128 (c.greatest.result -ℤ c.least.result) (omega (arith, (extremes_apart _ _ _ extremes).1)) in
+    simp to_z-of_z (extremes_differ _ _ _ extremes)

@@ -1,0 +1,3 @@
+pub mod PartsAgree
+pub mod PlacedLists
+pub mod WellFormed

@@ -1,0 +1,4 @@
+pub mod LawfulParts
+pub mod PartLaws
+pub mod Parts
+pub mod Views

@@ -1,0 +1,3 @@
+pub mod ExitRows
+pub mod ExitSteps
+pub mod NamedStates
