@@ -3,6 +3,8 @@ pub mod Extremes
 pub mod FourCoefficients
 pub mod Lookups
 pub mod Numerators
+pub mod Places
 pub mod Shifts
 pub mod Sizes
 pub mod Starts
+pub mod TableRows
