@@ -1,8 +1,12 @@
 pub mod Covering
 pub mod Extremes
 pub mod FourCoefficients
+pub mod GoodSteps
 pub mod Lookups
 pub mod Numerators
+pub mod Patterns
+pub mod Places
 pub mod Shifts
 pub mod Sizes
 pub mod Starts
+pub mod TableRows
