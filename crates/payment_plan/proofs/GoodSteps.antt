@@ -1,15 +1,15 @@
 -- The steps of a plan that obeys rules 10 and 11.
-use Rattle.std.proofs.Common.{◌≡◌, ℕ, zero, suc, ◌+◌, ◌<◌, ◌≤◌, List, [], ◌∷◌, length, get_or, drop, true, false}
+use Rattle.std.proofs.Common.{◌≡◌, ℕ, suc, ◌+◌, ◌<◌, ◌≤◌, List, [], ◌∷◌, length, get_or, drop}
 use Rattle.std.proofs.Common.{arith, refl, ap, sym, ◌∙◌, inl, inr, add-one}
 use Rattle.std.proofs.Math.Seq.{drop-cons}
-use Rattle.std.specs.Prelude.{All, Vec, ◌==◌}
+use Rattle.std.specs.Prelude.{All, Vec}
 use Rattle.std.specs.declared.alloc.Global.{Global}
 use Rattle.std.proofs.lemmas.Bool.Decides.{eqb_tells}
 use Rattle.std.proofs.lemmas.List.Elements.{All-head, All-tail}
 use Rattle.model_specs.specs.Product as model
 use Rattle.model_specs.specs.RecordRules.{IsPayment, IsBoundedPayment, step_starts}
 use Rattle.payment_plan.specs.declared.step.StepAmount.{StepAmount}
-use Rattle.payment_plan.specs.Records.{steps_of, sums_of, sojourns_of}
+use Rattle.payment_plan.specs.Records.{steps_of, sojourns_of}
 use Rattle.payment_plan.specs.Payments.{Payments, HasGoodPayments}
 use Rattle.payment_plan.specs.Steps.{HasGoodSteps, steps_in_state}
 

@@ -1,17 +1,15 @@
 -- The premium pattern in a month.
-use Rattle.std.proofs.Common.{◌≡◌, ℕ, zero, suc, ◌+◌, ◌*◌, ◌^◌, ◌<◌, ◌≤◌, ℤ, pos, ◌+ℤ◌, ◌*ℤ◌, List, [], ◌∷◌, length, get_or}
-use Rattle.std.proofs.Common.{Bool, true, false, cond, arith, refl, ap, sym, subst, ◌∙◌, inl, inr, ◌⊎◌}
-use Rattle.std.specs.Prelude.{All, Option, Some, None, find, map, option_map, unwrap_or, unsigned_abs, nat_lt, nat_le, ◌==◌, ◌&&◌}
+use Rattle.std.proofs.Common.{◌≡◌, ℕ, zero, suc, ◌*◌, ◌^◌, ◌<◌, ◌≤◌, ℤ, pos, List, [], ◌∷◌, get_or}
+use Rattle.std.proofs.Common.{Bool, true, false, cond, arith, refl, ap, sym, subst, ◌∙◌, inl, inr}
+use Rattle.std.specs.Prelude.{All, map, unsigned_abs, nat_lt, nat_le, ◌==◌, ◌&&◌}
 use Rattle.std.proofs.Math.Nat.{mul-zero, pow-zero}
-use Rattle.std.proofs.Math.IntN.{*ℤ-zero}
 use Rattle.std.proofs.lemmas.Bool.Decides.{eqb_tells, nat_tests}
-use Rattle.std.proofs.lemmas.Int.{ints}
 use Rattle.std.proofs.lemmas.List.Elements.{All-replicate}
-use Rattle.model_specs.specs.Product.{Step, Sojourn, PremiumPattern}
-use Rattle.model_specs.specs.Payments.{constant_step, continuous_pattern, dated_pattern, sojourn_at, step_at}
-use Rattle.model_specs.specs.RecordRules.{IsBounded, IsBoundedStep}
-use Rattle.model_specs.specs.MonthNumbers.{bernstein_numerators, coefficient_at}
-use Rattle.payment_plan.specs.Payments.{Payments, pattern_of, plan_of}
+use Rattle.model_specs.specs.Product.{Step, PremiumPattern}
+use Rattle.model_specs.specs.Payments.{constant_step, continuous_pattern, sojourn_at, step_at}
+use Rattle.model_specs.specs.RecordRules.{IsBoundedStep}
+use Rattle.model_specs.specs.MonthNumbers.{bernstein_numerators}
+use Rattle.payment_plan.specs.Payments.{Payments, pattern_of}
 use Rattle.payment_plan.specs.Steps.{steps_in_state}
 use Rattle.payment_plan.specs.Tables.{is_payer, pays_in_month}
 

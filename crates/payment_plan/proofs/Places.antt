@@ -1,5 +1,5 @@
 -- Lists that are given by places, one place after the other.
-use Rattle.std.proofs.Common.{◌≡◌, ℕ, zero, suc, ◌+◌, ◌<◌, List, [], ◌∷◌, ◌++◌, arith, refl, ap, ◌∙◌, add-one}
+use Rattle.std.proofs.Common.{◌≡◌, ℕ, zero, suc, ◌+◌, ◌<◌, [], ◌∷◌, ◌++◌, arith, refl, ap, ◌∙◌, add-one}
 use mathlib.Core.Path.{ap₂}
 use Rattle.std.specs.Prelude.{Option, Some, None, filter_map}
 use Rattle.std.specs.Option.{option_to_list}

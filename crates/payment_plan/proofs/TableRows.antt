@@ -1,5 +1,5 @@
 -- A table with a place for each date and state, and its rows.
-use Rattle.std.proofs.Common.{◌≡◌, ◌≢◌, ℕ, zero, suc, ◌+◌, ◌-◌, ◌*◌, ◌<◌, ◌≤◌, ℤ, List, [], ◌∷◌, length, get_or, take, drop}
+use Rattle.std.proofs.Common.{◌≡◌, ℕ, suc, ◌+◌, ◌-◌, ◌*◌, ◌<◌, ◌≤◌, ℤ, List, [], ◌∷◌, length, get_or, drop}
 use Rattle.std.proofs.Common.{true, false, arith, refl, ap, sym, subst, ◌∙◌, inl, inr, add-one, length-drop, ◌++◌, pos, cond, Bool, append-nil}
 use Rattle.std.specs.Prelude.{Option, Some, None, option_map, find, ◌==◌, ◌&&◌, slice_range}
 use Rattle.std.specs.Option.{option_to_list}
@@ -14,9 +14,9 @@ use Rattle.std.proofs.lemmas.List.{get_or-set_same, get_or-set_other, get_or-dro
 use Rattle.model_specs.specs.Whole.{list_of}
 use Rattle.model_specs.specs.Product as model
 use Rattle.payment_plan.specs.declared.lump.Lump.{Lump}
-use Rattle.payment_plan.specs.Records.{lump_of, lumps_of}
+use Rattle.payment_plan.specs.Records.{lumps_of}
 use Rattle.payment_plan.specs.Tables.{with_state, amount_at, row_upto, row_at, dated_lumps, is_payer, payer_at, payers_in_order, lists_of}
-use Rattle.payment_plan.proofs.Starts.{below_or_not, get_or-default}
+use Rattle.payment_plan.proofs.Starts.{below_or_not}
 use Rattle.payment_plan.proofs.Places.{places-agree, places-more, list_of-more}
 
 next_row : (s m n : ℕ) → m < n → m * s + s ≤ n * s

@@ -1,5 +1,5 @@
 -- What a plan keeps to answer at once: the lumps of each date, and those of the pattern.
-use Rattle.std.specs.Prelude.{◌≡◌, ℕ, suc, ◌+◌, ◌*◌, ◌%◌, ◌==◌, ◌&&◌, nat_lt, nat_le, ℤ, pos, not, Bool, List, [], ◌∷◌}
+use Rattle.std.specs.Prelude.{◌≡◌, ℕ, suc, ◌+◌, ◌*◌, ◌%◌, ◌==◌, ◌&&◌, nat_lt, ℤ, pos, not, Bool, List, []}
 use Rattle.std.specs.Prelude.{length, map, filter_map, find, option_map, slice_index_or, Option, Some, None}
 use Rattle.std.specs.Prelude.{Vec, slice_range, if◌then◌else◌}
 use Rattle.std.specs.List.{list_any}

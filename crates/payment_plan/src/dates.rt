@@ -46,7 +46,12 @@ fn row(alloc: Global, amounts: &[Option<i64>]) -> Result<Vec<(usize, i64)>, Allo
 }
 
 // The rows of a table of so many dates.
-fn rows(alloc: Global, table: &[Option<i64>], states: usize, dates: usize) -> Result<Vec<Vec<(usize, i64)>>, AllocError>
+fn rows(
+    alloc: Global,
+    table: &[Option<i64>],
+    states: usize,
+    dates: usize,
+) -> Result<Vec<Vec<(usize, i64)>>, AllocError>
     requires long { length table.now ≡ dates * states }
     requires states { states ≤ 12 }
     requires dates { dates ≤ 1201 }
@@ -61,7 +66,12 @@ fn rows(alloc: Global, table: &[Option<i64>], states: usize, dates: usize) -> Re
 }
 
 /// The lumps of each date up to the term. Takes time in proportion to the dates times the states, and the lumps.
-pub(crate) fn lumps_by_date(alloc: Global, states: usize, months: u32, lumps: &[Lump]) -> Result<Vec<Vec<(usize, i64)>>, AllocError>
+pub(crate) fn lumps_by_date(
+    alloc: Global,
+    states: usize,
+    months: u32,
+    lumps: &[Lump],
+) -> Result<Vec<Vec<(usize, i64)>>, AllocError>
     requires most_states { states ≤ 12 }
     requires most_months { months ≤ 1200 }
     requires states { All (λ l. l.state < states) lumps.now }
@@ -75,7 +85,11 @@ pub(crate) fn lumps_by_date(alloc: Global, states: usize, months: u32, lumps: &[
 }
 
 /// A lump of 1 in each payer state, in order of states.
-pub(crate) fn payer_lumps(alloc: Global, states: usize, payers: &[usize]) -> Result<Vec<(usize, i64)>, AllocError>
+pub(crate) fn payer_lumps(
+    alloc: Global,
+    states: usize,
+    payers: &[usize],
+) -> Result<Vec<(usize, i64)>, AllocError>
     requires { states ≤ 12 }
     ensures { IfOk result (λ lumps. lumps.items ≡ payers_in_order states payers.now) }
 {

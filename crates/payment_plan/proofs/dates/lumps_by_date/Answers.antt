@@ -1,4 +1,4 @@
-use Rattle.std.proofs.Common.{◌≡◌, suc, ◌+◌, ◌*◌, length, arith, ap, ◌∙◌, add-one}
+use Rattle.std.proofs.Common.{◌≡◌, suc, ◌+◌, length, arith, ap, ◌∙◌, add-one}
 use Rattle.std.proofs.lemmas.List.{with_items_is}
 use Rattle.model_specs.specs.Whole.{list_of}
 use Rattle.payment_plan.specs.Records.{lumps_of}

@@ -1,4 +1,4 @@
-use Rattle.std.proofs.Common.{arith, ap, ◌∙◌, sym}
+use Rattle.std.proofs.Common.{ap, ◌∙◌, sym}
 use Rattle.payment_plan.proofs.TableRows.{payers-more, payers-same}
 use Rattle.payment_plan.proofs.dates.payer_lumps.Goals as goal
 use Rattle.payment_plan.proofs.dates.payer_lumps.Goals.{then-contains+in_ok-push, else-contains}

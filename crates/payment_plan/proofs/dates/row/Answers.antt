@@ -1,4 +1,4 @@
-use Rattle.std.proofs.Common.{rules, pos, FitsSigned, ◌∙◌, ap}
+use Rattle.std.proofs.Common.{rules, FitsSigned, ◌∙◌, ap}
 use Rattle.std.specs.Int.{w64}
 use Rattle.std.proofs.lemmas.Int.{to_z-of_z}
 use Rattle.payment_plan.proofs.TableRows.{row-more, row-same}

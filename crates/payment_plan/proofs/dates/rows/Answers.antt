@@ -1,4 +1,3 @@
-use Rattle.std.proofs.Common.{arith}
 use Rattle.payment_plan.specs.Tables.{row_at}
 use Rattle.payment_plan.proofs.TableRows.{dates-more}
 use Rattle.payment_plan.proofs.dates.rows.Goals as goal

@@ -1,8 +1,7 @@
-use Rattle.std.proofs.Common.{◌-◌, ◌*◌, ◌+◌, ◌<◌, pos, length, get_or, FitsSigned, arith, rules}
+use Rattle.std.proofs.Common.{◌-◌, ◌<◌, pos, length, get_or, FitsSigned, arith, rules}
 use Rattle.std.specs.Int.{w64}
 use Rattle.std.proofs.lemmas.Int.{to_z-of_z}
 use Rattle.std.proofs.lemmas.List.{length-set}
-use Rattle.std.proofs.lemmas.List.Elements.{All-get_or}
 use Rattle.payment_plan.specs.declared.lump.Lump.{Lump}
 use Rattle.payment_plan.proofs.Starts.{get_or-default}
 use Rattle.payment_plan.proofs.TableRows.{WritesLump, writes_lump}

@@ -1,7 +1,6 @@
 use Rattle.std.proofs.Common.{ap, ◌∙◌, sym}
 use Rattle.payment_plan.specs.Records.{steps_of}
 use Rattle.payment_plan.proofs.GoodSteps.{StandsAt, steps_at, steps_past}
-use Rattle.payment_plan.proofs.Patterns.{pattern_rate}
 use Rattle.payment_plan.proofs.plan.steps_of_state.Goals as goal
 
 pub returns-then-at-state : goal.returns-then-at-state
