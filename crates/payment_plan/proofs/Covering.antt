@@ -7,7 +7,7 @@ use Rattle.std.proofs.lemmas.Bool.Decides.{nat_tests}
 use Rattle.model_specs.specs.Product.{Step}
 use Rattle.model_specs.specs.Payments.{constant_step, step_at}
 use Rattle.model_specs.specs.Whole.{last_or}
-use Rattle.model_specs.specs.RecordRules.{IsBounded, IsBoundedStep, StartsRise, months_of, step_starts}
+use Rattle.model_specs.specs.RecordRules.{IsBoundedStep, StartsRise, months_of, step_starts}
 use Rattle.payment_plan.proofs.Starts.{below_or_not, get_or-default, get_or-past, length-starts}
 
 -- the start of the step at a place

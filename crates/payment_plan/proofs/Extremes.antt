@@ -1,5 +1,5 @@
 -- The greatest and the least of numbers that rule 11 bounds, and the load of them.
-use Rattle.std.proofs.Common.{◌≡◌, ℕ, ◌+◌, ◌-◌, ◌*◌, ◌^◌, ◌<◌, ◌≤◌, ℤ, pos, negsuc, ◌-ℤ◌, ◌≤ℤ◌, List, [], ◌∷◌, arith, refl, ap, sym, length, get_or, Fits}
+use Rattle.std.proofs.Common.{◌≡◌, ℕ, ◌+◌, ◌*◌, ◌^◌, ◌≤◌, ℤ, pos, negsuc, ◌-ℤ◌, ◌≤ℤ◌, List, [], ◌∷◌, arith, refl, ap, sym, length, get_or, Fits}
 use Rattle.std.specs.Prelude.{All, map, unsigned_abs}
 use Rattle.std.specs.Int.{div_ceil, int_max, int_min}
 use lib.Dec.{T}

@@ -1,6 +1,6 @@
 -- Lists of four, as arrays of four are, and two zeros behind them, which make polynomials of degree five.
-use Rattle.std.proofs.Common.{◌≡◌, ℕ, zero, suc, ◌+◌, ◌*◌, ◌^◌, ◌<◌, ◌≤◌, ℤ, pos, ◌*ℤ◌, List, [], ◌∷◌, ◌++◌, length, get_or}
-use Rattle.std.proofs.Common.{take, arith, refl, ap, sym, subst, ◌∙◌}
+use Rattle.std.proofs.Common.{◌≡◌, ℕ, zero, suc, ◌+◌, ◌*◌, ◌^◌, ◌≤◌, ℤ, pos, ◌*ℤ◌, List, [], ◌∷◌, ◌++◌, length, get_or}
+use Rattle.std.proofs.Common.{take, arith, refl, ap, sym, subst}
 use Rattle.std.specs.Prelude.{unsigned_abs}
 use Rattle.model_specs.specs.RecordRules.{IsBounded}
 use Rattle.model_specs.specs.MonthNumbers.{bernstein_numerators}

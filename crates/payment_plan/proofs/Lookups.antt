@@ -1,6 +1,5 @@
 -- What a look-up of a step by its month gives.
-use Rattle.std.proofs.Common.{◌≡◌, ℕ, ◌+◌, ◌-◌, ◌<◌, ◌≤◌, List, length, get_or, arith, ap, sym, ◌∙◌}
-use Rattle.model_specs.specs.RecordRules.{IsBoundedStep}
+use Rattle.std.proofs.Common.{◌≡◌, ℕ, ◌+◌, ◌<◌, ◌≤◌, List, length, get_or, arith, ap, sym, ◌∙◌}
 use Rattle.payment_plan.specs.declared.step.StepAmount.{StepAmount}
 use Rattle.payment_plan.specs.Records.{record_of, steps_of, starts_of}
 use Rattle.payment_plan.specs.Steps.{HasGoodSteps, CoversMonth}
@@ -44,7 +43,7 @@ found_covers steps month low s f months good term =
     ap (λ q. q.c) (sym (record_is steps month low s f)) in
     record {
       step_is = record_is steps month low s f
-      ∙ sym (covering (steps_of steps) months month low (good.payment some).starts last);
+          ∙ sym (covering (steps_of steps) months month low (good.payment some).starts last);
       started = omega (arith, start_is steps month low s f, f.started);
       bounded = rw (start_is steps month low s f, ← same) there;
     }

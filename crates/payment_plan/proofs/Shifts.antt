@@ -1,5 +1,5 @@
 -- Shifts of polynomials with zeros behind them, and the amount in a cell.
-use Rattle.std.proofs.Common.{◌≡◌, ℕ, zero, suc, ◌+◌, ◌-◌, ◌*◌, ◌^◌, ◌<◌, ◌≤◌, ℤ, pos, negsuc, List, [], ◌∷◌, ◌++◌, length, get_or}
+use Rattle.std.proofs.Common.{◌≡◌, ℕ, zero, suc, ◌^◌, ℤ, pos, negsuc, List, [], ◌∷◌, ◌++◌, length, get_or}
 use Rattle.std.proofs.Common.{take, arith, refl, ap, sym, subst, ◌∙◌}
 use mathlib.Core.Path.{ap₂}
 use Rattle.std.proofs.Math.Seq.{take-append_seam}
@@ -12,7 +12,7 @@ use Rattle.frac_laws.proofs.Polynomials.{shifted-stretched, stretched-stretched,
 use Rattle.poly_small.proofs.Sixes.{over-zero}
 use Rattle.poly_small.proofs.Units.{in_units-stretched}
 use Rattle.poly_small.specs.WholePolynomials.{in_units_of}
-use Rattle.payment_plan.proofs.FourCoefficients.{four_of, four_are_all, padded}
+use Rattle.payment_plan.proofs.FourCoefficients.{four_are_all, padded}
 
 -- a zero as the last coefficient
 abbrev pub none : List Fraction

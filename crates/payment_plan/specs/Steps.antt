@@ -1,5 +1,5 @@
 -- Steps in order, and the one that covers a month.
-use Rattle.std.specs.Prelude.{◌≡◌, ℕ, ◌+◌, ◌-◌, ◌<◌, ◌≤◌, ◌==◌, List, [], length, find, option_map, unwrap_or}
+use Rattle.std.specs.Prelude.{◌≡◌, ℕ, ◌+◌, ◌-◌, ◌≤◌, ◌==◌, List, [], length, find, option_map, unwrap_or}
 use Rattle.model_specs.specs.Product.{Step, Sojourn}
 use Rattle.model_specs.specs.Payments.{step_at}
 use Rattle.model_specs.specs.RecordRules.{IsPayment, IsBoundedStep, IsBoundedPayment}

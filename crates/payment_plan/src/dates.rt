@@ -3,7 +3,7 @@
 ghost use Rattle.std.specs.Prelude.{◌≡◌, ℕ, suc, ◌+◌, ◌*◌, ◌<◌, ◌≤◌, All, None, IfOk, [], length, slice_index_or};
 ghost use Rattle.model_specs.specs.Whole.{list_of};
 ghost use Rattle.payment_plan.specs.Records.{lumps_of};
-ghost use Rattle.payment_plan.specs.Tables.{amount_at, row_of, dated_lumps, lists_of, payers_in_order};
+ghost use Rattle.payment_plan.specs.Tables.{amount_at, row_of, row_at, dated_lumps, lists_of, payers_in_order};
 
 use crate::lump::Lump;
 use std::alloc::{AllocError, Global};
@@ -45,8 +45,33 @@ fn row(alloc: Global, amounts: &[Option<i64>]) -> Result<Vec<(usize, i64)>, Allo
     Ok(lumps)
 }
 
+// The rows of a table of so many dates.
+fn rows(
+    alloc: Global,
+    table: &[Option<i64>],
+    states: usize,
+    dates: usize,
+) -> Result<Vec<Vec<(usize, i64)>>, AllocError>
+    requires long { length table.now ≡ dates * states }
+    requires states { states ≤ 12 }
+    requires dates { dates ≤ 1201 }
+    ensures { IfOk result (λ dated. lists_of dated.items ≡ list_of dates (row_at table.now states)) }
+{
+    let mut dated = Vec::new(alloc);
+    for date in 0..dates {
+        let lumps = row(alloc, &table[date * states..(date + 1) * states])?;
+        dated.push(lumps)?;
+    }
+    Ok(dated)
+}
+
 /// The lumps of each date up to the term. Takes time in proportion to the dates times the states, and the lumps.
-pub(crate) fn lumps_by_date(alloc: Global, states: usize, months: u32, lumps: &[Lump]) -> Result<Vec<Vec<(usize, i64)>>, AllocError>
+pub(crate) fn lumps_by_date(
+    alloc: Global,
+    states: usize,
+    months: u32,
+    lumps: &[Lump],
+) -> Result<Vec<Vec<(usize, i64)>>, AllocError>
     requires most_states { states ≤ 12 }
     requires most_months { months ≤ 1200 }
     requires states { All (λ l. l.state < states) lumps.now }
@@ -56,15 +81,15 @@ pub(crate) fn lumps_by_date(alloc: Global, states: usize, months: u32, lumps: &[
     let dates = months as usize + 1;
     let mut table = vec![in alloc; None; dates * states]?;
     write(&mut table, states, lumps);
-    let mut dated = Vec::new(alloc);
-    for date in 0..dates {
-        dated.push(row(alloc, &table[date * states..(date + 1) * states])?)?;
-    }
-    Ok(dated)
+    rows(alloc, &table, states, dates)
 }
 
 /// A lump of 1 in each payer state, in order of states.
-pub(crate) fn payer_lumps(alloc: Global, states: usize, payers: &[usize]) -> Result<Vec<(usize, i64)>, AllocError>
+pub(crate) fn payer_lumps(
+    alloc: Global,
+    states: usize,
+    payers: &[usize],
+) -> Result<Vec<(usize, i64)>, AllocError>
     requires { states ≤ 12 }
     ensures { IfOk result (λ lumps. lumps.items ≡ payers_in_order states payers.now) }
 {

@@ -1,10 +1,10 @@
 //! Payment plans.
 
-ghost use Rattle.std.specs.Prelude.{◌≡◌, ℕ, ◌+◌, ◌-◌, ◌<◌, ◌≤◌, IfOk, [], length, slice_index, slice_index_or};
+ghost use Rattle.std.specs.Prelude.{◌≡◌, ◌+◌, ◌-◌, ◌<◌, ◌≤◌, IfOk, [], length, slice_index_or};
 ghost use Rattle.model_specs.specs.Payments.{sojourn_at, sum_at, lumps_at};
 ghost use Rattle.model_specs.specs.RecordRules.{IsBoundedStep};
-ghost use Rattle.payment_plan.specs.Records.{record_of, steps_of, starts_of, sojourns_of, lumps_of, pattern_rule_of, payments_of};
-ghost use Rattle.payment_plan.specs.Payments.{IsAllowed, benefits_of, plan_of};
+ghost use Rattle.payment_plan.specs.Records.{record_of, steps_of, sojourns_of, lumps_of, pattern_rule_of, payments_of};
+ghost use Rattle.payment_plan.specs.Payments.{IsAllowed, plan_of};
 ghost use Rattle.payment_plan.specs.Steps.{steps_in_state};
 
 use crate::dates::{lumps_by_date, payer_lumps};
@@ -125,8 +125,8 @@ impl Plan {
         ensures bounded { IsBoundedStep result.c (month - result.from + 1) }
     {
         match which {
-            Which::Benefits => step_at(steps_of_state(&self.sojourns, state), month),
-            Which::Pattern => StepAmount::constant(i64::from(self.pattern.pays_in(state, month))),
+            Which::Benefits => step_at(steps_of_state(self.sojourns(), state), month),
+            Which::Pattern => StepAmount::constant(i64::from(self.pattern().pays_in(state, month))),
         }
     }
 
@@ -142,7 +142,7 @@ impl Plan {
         ensures bounded { IsBoundedStep result.c (month - result.from + 1) }
     {
         match which {
-            Which::Benefits => step_at(&self.sums[transition], month),
+            Which::Benefits => step_at(self.sums(transition), month),
             Which::Pattern => StepAmount::constant(0),
         }
     }

@@ -1,4 +1,4 @@
-use Rattle.std.proofs.Common.{◌≡◌, ◌+◌, ◌-◌, ◌*◌, ◌^◌, ◌<◌, pos, negsuc, List, ℤ, get_or, length, take, FitsSigned, arith, rules}
+use Rattle.std.proofs.Common.{◌≡◌, ◌+◌, ◌-◌, ◌*◌, ◌^◌, pos, negsuc, get_or, length, take, FitsSigned, arith, rules}
 use Rattle.std.proofs.Common.{ap, sym, ◌∙◌, add-one}
 use Rattle.std.specs.Int.{w128}
 use Rattle.std.proofs.lemmas.Int.{to_z-of_z}
@@ -53,7 +53,7 @@ returns-clause-polynomial c =
       four = four;
       six = six;
       shift = c.shift.ensures.polynomial (384 ^ 3)
-      ∙ ap (λ p. shifted (whole (pos ((c.args.month - c.args.s.now.from) * 32 + c.args.cell + 1))) (all_over (384 ^ 3) p)) c.in_cells.ensures;
+          ∙ ap (λ p. shifted (whole (pos ((c.args.month - c.args.s.now.from) * 32 + c.args.cell + 1))) (all_over (384 ^ 3) p)) c.in_cells.ensures;
       turn = c.reflect.ensures.polynomial (384 ^ 3);
     } in
     simp to_z-of_z

@@ -1,9 +1,9 @@
-use Rattle.std.proofs.Common.{◌≡◌, ◌+◌, ◌-◌, pos, length, FitsSigned, arith, rules, ap, ◌∙◌, sym, subst, List, ℤ}
+use Rattle.std.proofs.Common.{◌≡◌, ◌-◌, pos, length, FitsSigned, arith, rules, ap, ◌∙◌, sym, subst}
 use Rattle.std.specs.Int.{w128}
 use Rattle.std.proofs.lemmas.Int.{to_z-of_z}
 use Rattle.model_specs.specs.MonthNumbers.{bernstein_numerators}
 use Rattle.payment_plan.specs.Loads.{AreWithin, load_of_numerators}
-use Rattle.payment_plan.proofs.FourCoefficients.{padded, length-padded, padded_numerators}
+use Rattle.payment_plan.proofs.FourCoefficients.{padded_numerators}
 use Rattle.payment_plan.proofs.Numerators.{numerators_are}
 use Rattle.payment_plan.proofs.Sizes.{month_fits}
 use Rattle.payment_plan.proofs.load.amount_load.Goals as goal

@@ -1,6 +1,6 @@
-use Rattle.std.proofs.Common.{◌≡◌, ◌-ℤ◌, FitsSigned, arith, rules}
+use Rattle.std.proofs.Common.{◌-ℤ◌, FitsSigned, arith, rules}
 use Rattle.std.specs.Int.{w128}
-use Rattle.std.proofs.lemmas.Int.{to_z-of_z, ints, fits_signed_from_abs}
+use Rattle.std.proofs.lemmas.Int.{to_z-of_z, fits_signed_from_abs}
 use Rattle.payment_plan.proofs.Extremes.{AreExtremes, extremes_apart, extremes_differ, cast_fits}
 use Rattle.payment_plan.proofs.load.spread.Goals as goal
 

@@ -1,0 +1,8 @@
+use Rattle.std.proofs.Common.{◌≡◌}
+use Rattle.model_specs.specs.Whole.{list_of}
+use Rattle.payment_plan.specs.Tables.{lists_of, row_at}
+use Rattle.payment_plan.proofs.dates.rows.Given as goal
+
+-- the dates so far
+abbrev pub invariant-loop-date : goal.invariant-loop-date
+invariant-loop-date l = lists_of l.dated.items ≡ list_of l.date (row_at l.table l.states)
