@@ -41,8 +41,8 @@ four tree d = either (is_format_1 tree) _ _ refl
     either true x y h k = h
     either false x y h k = k
 
-starts : (tree : Members) (d : Data) → (step_of tree d).from ≡ natural_part (start_of d)
-starts tree d = either (is_format_1 tree) _ _ refl refl
+pub step_start : (tree : Members) (d : Data) → (step_of tree d).from ≡ natural_part (start_of d)
+step_start tree d = either (is_format_1 tree) _ _ refl refl
   where
     either : (b : Bool) (x y : Step) → x.from ≡ natural_part (start_of d) → y.from ≡ natural_part (start_of d)
         → (if◌then◌else◌ {A = Step} b x y).from ≡ natural_part (start_of d)
@@ -54,7 +54,7 @@ steps_are_good : (tree : Members) (items : List Data) → first_failed (steps_ru
     → IsPayment (months_of_term tree) (map (step_of tree) items)
 steps_are_good tree items h = record {
   four = All-map (λ step. length step.c ≡ 4) (step_of tree) items (λ k d below. four tree (get_or items k d));
-  starts = starts_rise (whole_of (codes "months") tree) items (step_of tree) (λ step. step.from) (starts tree)
+  starts = starts_rise (whole_of (codes "months") tree) items (step_of tree) (λ step. step.from) (step_start tree)
       (some-there (length items) _ h)
       (λ i below. right-of (is_step tree (item_at items i)) _ (each-of-some (length items) _ h i below));
 }

@@ -1,5 +1,3 @@
-pub mod FlatBounds
-pub mod FlatFiles
-pub mod FlatTrees
-pub mod FlatValues
-pub mod MembersLemmas
+pub mod Grown
+pub mod Starts
+pub mod Wholes

@@ -1,69 +1,51 @@
-// The head of a flat file: its names, its term and its denominator.
-ghost use Rattle.std.specs.Prelude.{◌≡◌, ℕ, ℤ, pos, ◌≤◌, IfSome, IfNone};
-ghost use Rattle.toml.specs.View.{table_view};
-ghost use Rattle.product_reader.specs.FlatTree.{FlatProduct, IsFlatHead};
-ghost use Rattle.product_reader.specs.Lent.{product_with};
+//! The names of the states, and the states and transitions of a file.
 
-use crate::names::{PRODUCT_NAME_BYTES, STATE_NAME_BYTES, is_good_name};
-use crate::table::{key_count, only_text_at, text_at, whole_at};
+ghost use Rattle.std.specs.Prelude.{◌≡◌, IfOk, length, map, None};
+ghost use Rattle.toml.specs.View.{view, table_view};
+ghost use Rattle.model_specs.specs.RecordRules.{IsWellFormed};
+ghost use Rattle.state_graph.specs.StateGraphs.{texts_of};
+ghost use Rattle.product_file.specs.HeadRules.{state_names};
+ghost use Rattle.product_file.specs.TransitionRule.{pair_of, transition_items};
+ghost use Rattle.product_file.specs.Reads.{product_of};
+ghost use Rattle.product_model.specs.Views.{graph_of};
+
+use file_checks::{item, state_index, states, text_in, transitions};
+use state_graph::Graph;
+use std::alloc::{AllocError, Global};
 use toml::Table;
 
-/// The names, the term in months and the denominator of a flat tree, which lends the names.
-#[derive(Drop)]
-pub struct Head<'a> {
-    pub name: &'a str,
-    pub state: &'a str,
-    pub months: u32,
-    pub den: i64,
+// The names of the states, in the file's order.
+fn names_of(alloc: Global, tree: &Table) -> Result<Vec<Vec<u8>>, AllocError>
+    ensures { IfOk result (λ names. texts_of names.items ≡ state_names (table_view tree.now)) }
+{
+    let states = states(tree);
+    let mut names = Vec::new(alloc);
+    for i in 0..states.len() {
+        names.push(text_in(item(states, i)).as_bytes().to_vec(alloc)?)?;
+    }
+    Ok(names)
 }
 
-/// How many keys the top table of a flat file has.
-const TOP_KEYS: usize = 8;
-
-/// The longest term, in months.
-const MOST_MONTHS: i64 = 1200;
-
-/// The largest denominator.
-const MOST_DEN: i64 = 1_000_000_000_000;
-
-/// The number as a term in months, where it is one.
-fn months_of(number: i64) -> Option<u32>
-    ensures some { IfSome result (λ months. (number ≡ pos months) × (1 ≤ months) × (months ≤ 1200)) }
-    ensures none { IfNone result ((months : ℕ) → number ≡ pos months → 1 ≤ months → ¬ (months ≤ 1200)) }
+// The pairs of states of the transitions, in the file's order.
+fn pairs_of(alloc: Global, tree: &Table) -> Result<Vec<(usize, usize)>, AllocError>
+    ensures { IfOk result (λ pairs. pairs.items ≡ map (pair_of (table_view tree.now)) (transition_items (table_view tree.now))) }
 {
-    if number >= 1 && number <= MOST_MONTHS {
-        Some(number as u32)
-    } else {
-        None
+    let transitions = transitions(tree);
+    let mut pairs = Vec::new(alloc);
+    for k in 0..transitions.len() {
+        let transition = item(transitions, k);
+        pairs.push((
+            state_index(tree, "from", transition),
+            state_index(tree, "to", transition),
+        ))?;
     }
+    Ok(pairs)
 }
 
-/// The head of the tree, where it is that of a flat file.
-pub fn head_of(tree: &Table) -> Option<Head<'_>>
-    ensures some { IfSome result (λ head. (interest rate : ℤ) →
-        IsFlatHead (table_view tree.now) (product_with head interest rate)) }
-    ensures none { IfNone result ((product : FlatProduct) → ¬ IsFlatHead (table_view tree.now) product) }
+/// The states and transitions of a file that breaks no rule.
+pub(crate) fn graph_from(alloc: Global, tree: &Table) -> Result<Graph, AllocError>
+    requires { IsWellFormed (product_of (table_view tree.now)) }
+    ensures { IfOk result (λ graph. graph ≡ graph_of (product_of (table_view tree.now))) }
 {
-    if key_count(tree) != TOP_KEYS || whole_at(tree, "format") != Some(1) {
-        return None;
-    }
-    let name = text_at(tree, "name")?;
-    let state = text_at(tree, "start")?;
-    if !is_good_name(name, PRODUCT_NAME_BYTES) || !is_good_name(state, STATE_NAME_BYTES) {
-        return None;
-    }
-    if only_text_at(tree, "states") != Some(state) {
-        return None;
-    }
-    let months = months_of(whole_at(tree, "months")?)?;
-    let den = whole_at(tree, "den")?;
-    if den < 1 || den > MOST_DEN {
-        return None;
-    }
-    Some(Head {
-        name,
-        state,
-        months,
-        den,
-    })
+    Graph::new(alloc, names_of(alloc, tree)?, pairs_of(alloc, tree)?)
 }

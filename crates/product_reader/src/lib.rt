@@ -1,14 +1,8 @@
-//! Reads a flat product file, one state with one interest and one payment rate, from its bytes.
+//! Reads product files: from bytes to a product, or to the first rule that they break.
 #![tactic(auto)]
 
-mod flat;
+mod curves;
+mod dates;
 mod head;
-mod interest;
-mod names;
-mod sojourn;
-mod table;
-#[cfg(test)]
-mod tests;
-mod tree;
-
-pub use flat::{Flat, FlatError, read_flat};
+mod payments;
+mod product;

@@ -1,0 +1,79 @@
+-- The months of pieces, steps and lumps of a well-formed product.
+use Rattle.std.proofs.Common.{◌≡◌, ℕ, ◌<◌, ◌≤◌, List, [], length, map, get_or, ap, sym, subst, ◌∙◌, arith}
+use Rattle.std.proofs.Common.{refl, pos}
+use Rattle.std.specs.Prelude.{All, Bool, true, false, if◌then◌else◌, codes, slice_index}
+use Rattle.std.proofs.lemmas.List.{get_or-map, length-map}
+use Rattle.toml.specs.Data.{Data, Members, boolean}
+use Rattle.model_specs.specs.Whole.{natural_part}
+use Rattle.model_specs.specs.Product.{Step, Transition, Sojourn, Lump, no_transition}
+use Rattle.model_specs.specs.RecordRules.{StartsRise, IsCurve, IsBoundedCurve, IsPayment, IsWellFormed}
+use Rattle.product_file.specs.Members.{items_of, members_of, item_at, whole_of}
+use Rattle.product_file.specs.HeadRules.{is_format_1}
+use Rattle.product_file.specs.CurveRules.{piece_of, start_of, months_of_term}
+use Rattle.product_file.specs.TransitionRule.{transition_items}
+use Rattle.product_file.specs.PaymentRules.{step_of, sojourn_items}
+use Rattle.product_file.specs.LumpRule.{lump_of, lump_items}
+use Rattle.product_file.specs.Reads.{product_of, transition_of, sojourn_of}
+use Rattle.product_file.proofs.Wholes.{map-twice}
+use Rattle.product_file.proofs.Payments.{step_start}
+
+-- what holds of each part made of some data holds of the part made of each of them
+of_each : {A : Type 0} (P : A → Type 0) (part : Data → A) (ds : List Data) (k : ℕ) (none : A) → All P (map part ds)
+    → k < length ds → P (part (item_at ds k))
+of_each P part ds k none all below =
+    subst P (get_or-map part ds k (boolean false) none below) (all k none (subst (λ n. k < n) (sym (length-map ds part)) below))
+
+-- starts of parts that rise below the term are starts of the data that they are made of
+starts_within : {A : Type 0} (months : ℕ) (ds : List Data) (part : Data → A) (from : A → ℕ)
+    → ((d : Data) → from (part d) ≡ natural_part (start_of d)) → StartsRise months (map from (map part ds))
+    → months ≤ 1200 → All (λ d. natural_part (start_of d) ≤ 1200) ds
+starts_within months ds part from reads h term k d below =
+    let count : length (map from (map part ds)) ≡ length ds = length-map (map part ds) from ∙ length-map ds part in
+    let inside : k < length (map from (map part ds)) = subst (λ n. k < n) (sym count) below in
+    let start : slice_index (map from (map part ds)) k ≡ natural_part (start_of (get_or ds k d)) =
+    ap (λ xs. slice_index xs k) (map-twice from part ds) ∙ get_or-map (λ x. from (part x)) ds k d 0 below
+    ∙ reads (get_or ds k d) in
+    let low : slice_index (map from (map part ds)) k < months = h.below k inside in
+    omega (arith, start, low, term)
+
+pub curve_starts : (months : ℕ) (ds : List Data) → IsCurve months (map piece_of ds) → months ≤ 1200
+    → All (λ d. natural_part (start_of d) ≤ 1200) ds
+curve_starts months ds h = starts_within months ds piece_of (λ piece. piece.from) (λ d. refl) h.starts
+
+pub payment_starts : (tree : Members) (months : ℕ) (ds : List Data)
+    → (1 ≤ length (map (step_of tree) ds) → IsPayment months (map (step_of tree) ds)) → months ≤ 1200
+    → All (λ d. natural_part (start_of d) ≤ 1200) ds
+payment_starts tree months ds h term k d below =
+    let some : 1 ≤ length (map (step_of tree) ds) =
+    subst (λ n. 1 ≤ n) (sym (length-map ds (step_of tree))) (omega (arith, below)) in
+    starts_within months ds (step_of tree) (λ step. step.from) (step_start tree) (h some).starts term k d below
+
+-- the intensity, the sum, the steps of a sojourn and the month of a lump, by their places in the file
+pub rate_is_curve : (tree : Members) (k : ℕ) → IsWellFormed (product_of tree) → k < length (transition_items tree)
+    → IsCurve (months_of_term tree) (transition_of tree (item_at (transition_items tree) k)).rate
+rate_is_curve tree k h below = of_each (λ t. IsCurve (months_of_term tree) t.rate) (transition_of tree)
+    (transition_items tree) k no_transition h.curves.rates below
+
+pub rate_is_bounded : (tree : Members) (k : ℕ) → IsWellFormed (product_of tree) → k < length (transition_items tree)
+    → IsBoundedCurve (months_of_term tree) (transition_of tree (item_at (transition_items tree) k)).rate
+rate_is_bounded tree k h below = of_each (λ t. IsBoundedCurve (months_of_term tree) t.rate) (transition_of tree)
+    (transition_items tree) k no_transition h.curves.bounded_rates below
+
+pub sum_is_payment : (tree : Members) (k : ℕ) → IsWellFormed (product_of tree) → k < length (transition_items tree)
+    → 1 ≤ length (transition_of tree (item_at (transition_items tree) k)).sum
+    → IsPayment (months_of_term tree) (transition_of tree (item_at (transition_items tree) k)).sum
+sum_is_payment tree k h below = of_each (λ t. 1 ≤ length t.sum → IsPayment (months_of_term tree) t.sum)
+    (transition_of tree) (transition_items tree) k no_transition h.payments.sums below
+
+pub sojourn_is_payment : (tree : Members) (s : ℕ) → IsWellFormed (product_of tree) → s < length (sojourn_items tree)
+    → IsPayment (months_of_term tree) (sojourn_of tree (item_at (sojourn_items tree) s)).steps
+sojourn_is_payment tree s h below = of_each (λ t. IsPayment (months_of_term tree) t.steps) (sojourn_of tree)
+    (sojourn_items tree) s (record { state = 0; steps = [] }) h.payments.sojourns below
+
+pub lump_month : (tree : Members) (k : ℕ) → IsWellFormed (product_of tree) → k < length (lump_items tree)
+    → (lump_of tree (item_at (lump_items tree) k)).month ≤ 1200
+lump_month tree k h below =
+    let within : (lump_of tree (item_at (lump_items tree) k)).month ≤ months_of_term tree =
+    of_each (λ l. l.month ≤ months_of_term tree) (lump_of tree) (lump_items tree) k
+    (record { month = 0; state = 0; amount = pos 0 }) h.lumps.dates below in
+    omega (arith, within, h.head.at_most_a_century)
