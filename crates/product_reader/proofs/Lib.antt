@@ -1,3 +1,5 @@
+pub mod Breaks
 pub mod Grown
+pub mod ReadAnswers
 pub mod Starts
 pub mod Wholes

@@ -1,8 +1,12 @@
 //! Reads product files: from bytes to a product, or to the first rule that they break.
 #![tactic(auto)]
 
+mod broken;
 mod curves;
 mod dates;
 mod head;
 mod payments;
 mod product;
+mod read;
+
+pub use read::{ReadError, read_product};

@@ -1,6 +1,6 @@
 //! The payments of a file that breaks no rule.
 
-ghost use Rattle.std.specs.Prelude.{◌≡◌, ◌≤◌, All, IfOk, length, map};
+ghost use Rattle.std.specs.Prelude.{◌≡◌, ◌<◌, ◌≤◌, All, IfOk, length, map};
 ghost use Rattle.toml.specs.View.{view, table_view};
 ghost use Rattle.model_specs.specs.Whole.{natural_part};
 ghost use Rattle.model_specs.specs.RecordRules.{IsWellFormed};
