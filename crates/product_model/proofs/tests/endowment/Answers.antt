@@ -7,13 +7,25 @@ use Rattle.model_specs.specs.Names.{IsGoodName, is_name_byte}
 use Rattle.product_model.proofs.tests.endowment.Goals as goal
 
 name_is_good : IsGoodName 40 (codes "endowment")
-name_is_good = record { not_empty = lit< tt; short = lit≤ tt; bytes = AllPass-from_list_all is_name_byte (codes "endowment") refl }
+name_is_good = record {
+  not_empty = lit< tt;
+  short = lit≤ tt;
+  bytes = AllPass-from_list_all is_name_byte (codes "endowment") refl;
+}
 
 on_is_good : IsGoodName 24 (codes "on")
-on_is_good = record { not_empty = lit< tt; short = lit≤ tt; bytes = AllPass-from_list_all is_name_byte (codes "on") refl }
+on_is_good = record {
+  not_empty = lit< tt;
+  short = lit≤ tt;
+  bytes = AllPass-from_list_all is_name_byte (codes "on") refl;
+}
 
 off_is_good : IsGoodName 24 (codes "off")
-off_is_good = record { not_empty = lit< tt; short = lit≤ tt; bytes = AllPass-from_list_all is_name_byte (codes "off") refl }
+off_is_good = record {
+  not_empty = lit< tt;
+  short = lit≤ tt;
+  bytes = AllPass-from_list_all is_name_byte (codes "off") refl;
+}
 
 states_are_good : All (IsGoodName 24) (codes "on" ∷ codes "off" ∷ [])
 states_are_good =
