@@ -82,12 +82,12 @@ pattern_rate p state month = cases (p.pattern.every == 0) refl
     cases false h = rw h refl
 
 -- a constant of 1 or 0 is bounded
-one_numerators : (k : ℕ)
+pub one_numerators : (k : ℕ)
     → bernstein_numerators (pos 1 ∷ pos 0 ∷ pos 0 ∷ pos 0 ∷ []) k
     ≡ pos 2488320 ∷ pos 2488320 ∷ pos 2488320 ∷ pos 2488320 ∷ pos 2488320 ∷ pos 2488320 ∷ []
 one_numerators k = simp (mul-zero, pow-zero)
 
-no_numerators : (k : ℕ)
+pub no_numerators : (k : ℕ)
     → bernstein_numerators (pos 0 ∷ pos 0 ∷ pos 0 ∷ pos 0 ∷ []) k ≡ pos 0 ∷ pos 0 ∷ pos 0 ∷ pos 0 ∷ pos 0 ∷ pos 0 ∷ []
 no_numerators k = simp (mul-zero, pow-zero)
 

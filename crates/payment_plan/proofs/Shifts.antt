@@ -30,7 +30,7 @@ added : (c b : Fraction) (xs : List Fraction)
 added c b [] = refl
 added c b (x ∷ xs) = refl
 
-shifted-none : (b : Fraction) (p : List Fraction) → shifted b (p ++ none) ≡ shifted b p ++ none
+pub shifted-none : (b : Fraction) (p : List Fraction) → shifted b (p ++ none) ≡ shifted b p ++ none
 shifted-none b [] = ap (λ z. z ∷ []) (ring [] (hlevel terms) refl)
 shifted-none b (c ∷ p) =
     ap (λ z. add_lists (c ∷ []) (times_linear b z)) (shifted-none b p)

@@ -21,9 +21,8 @@ returns-in-Benefits c =
     let step_is = covers.step_is ∙ ap (λ steps. step_at steps c.args.month) c.sums.ensures.steps in
     rw c.in-Benefits.is
     (record {
-      benefits = λ _. step_is;
+      step = step_is;
       pattern = λ other. cc;
-      coefficients = ap (λ s. s.c) step_is;
       started = covers.started;
       bounded = covers.bounded;
     })
