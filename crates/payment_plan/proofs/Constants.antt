@@ -1,7 +1,6 @@
 -- A constant payment weighs and pays the same whenever it started.
-use Rattle.std.proofs.Common.{◌≡◌, ℕ, ◌+◌, ◌-◌, ◌*◌, ℤ, pos, List, [], ◌∷◌, ◌++◌, Bool, true, false, refl, ap, sym, ◌∙◌}
-use mathlib.Core.Path.{ap₂}
-use Rattle.frac_laws.specs.Fraction.{Fraction, over, whole}
+use Rattle.std.proofs.Common.{◌≡◌, ℕ, ◌+◌, ◌-◌, ◌*◌, ℤ, pos, [], ◌∷◌, ◌++◌, Bool, true, false, refl, ap, sym, ◌∙◌}
+use Rattle.frac_laws.specs.Fraction.{Fraction, over}
 use Rattle.frac_laws.specs.Polynomials.{all_over, shifted, stretched}
 use Rattle.frac_laws.proofs.FractionTerms.{ring, terms}
 use Rattle.poly_small.proofs.Sixes.{over-zero}
