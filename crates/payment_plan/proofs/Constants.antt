@@ -19,7 +19,8 @@ pub record AreSameUnit (s t : Step) (b : Bool) : Type 0 where
   pub second : t.c ≡ (constant_step 0 (unit_amount b)).c
 
 same_numerators : (b : Bool) (j k : ℕ)
-    → bernstein_numerators (constant_step 0 (unit_amount b)).c j ≡ bernstein_numerators (constant_step 0 (unit_amount b)).c k
+    → bernstein_numerators (constant_step 0 (unit_amount b)).c j
+    ≡ bernstein_numerators (constant_step 0 (unit_amount b)).c k
 same_numerators true j k = one_numerators j ∙ sym (one_numerators k)
 same_numerators false j k = no_numerators j ∙ sym (no_numerators k)
 
@@ -35,11 +36,13 @@ constant_polynomial : (a : ℤ) → all_over 1 (constant_step 0 a).c ≡ (over a
 constant_polynomial a =
     ap (λ z. over a 1 ∷ z) (ap (λ z. z ∷ z ∷ z ∷ []) (over-zero 1))
 
-shifted_constant : (b : Fraction) (a : ℤ) → shifted b (all_over 1 (constant_step 0 a).c) ≡ (over a 1 ∷ []) ++ none ++ none ++ none
+shifted_constant : (b : Fraction) (a : ℤ)
+    → shifted b (all_over 1 (constant_step 0 a).c) ≡ (over a 1 ∷ []) ++ none ++ none ++ none
 shifted_constant b a =
     ap (shifted b) (constant_polynomial a)
     ∙ shifted-none b ((over a 1 ∷ []) ++ none ++ none)
-    ∙ ap (λ z. z ++ none) (shifted-none b ((over a 1 ∷ []) ++ none) ∙ ap (λ z. z ++ none) (shifted-none b (over a 1 ∷ [])))
+    ∙ ap (λ z. z ++ none)
+    (shifted-none b ((over a 1 ∷ []) ++ none) ∙ ap (λ z. z ++ none) (shifted-none b (over a 1 ∷ [])))
     ∙ ap (λ z. (z ∷ []) ++ none ++ none ++ none) (ring (over a 1 ∷ []) (hlevel terms) refl)
 
 pub same_amount : (s t : Step) (b : Bool) (month : ℕ) → AreSameUnit s t b → (grid : Grid) (cell : ℕ)
@@ -49,5 +52,6 @@ same_amount s t b month same grid cell =
     let start : ℕ → Fraction =
     λ from. over (pos (origin_of grid.direction ((month - from) * grid.cells + cell))) (12 * grid.cells) in
     ap (λ c. stretched h (shifted (start s.from) (all_over 1 c))) same.first
-    ∙ ap (stretched h) (shifted_constant (start s.from) (unit_amount b) ∙ sym (shifted_constant (start t.from) (unit_amount b)))
+    ∙ ap (stretched h)
+    (shifted_constant (start s.from) (unit_amount b) ∙ sym (shifted_constant (start t.from) (unit_amount b)))
     ∙ ap (λ c. stretched h (shifted (start t.from) (all_over 1 c))) (sym same.second)

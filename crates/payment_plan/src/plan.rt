@@ -38,7 +38,9 @@ impl Model for Plan {
 
     ghost view = { λ p. payments_of p.states p.months p.sums.items p.sojourns.items p.lumps.items p.pattern };
 
-    ghost invariant = { λ p. KeepsTables (payments_of p.states p.months p.sums.items p.sojourns.items p.lumps.items p.pattern) (lists_of p.dated.items) p.payers.items };
+    ghost invariant = { λ p. KeepsTables
+        (payments_of p.states p.months p.sums.items p.sojourns.items p.lumps.items p.pattern)
+        (lists_of p.dated.items) p.payers.items };
 }
 
 // The steps of the rate of a state, and none where it has no sojourn.

@@ -43,7 +43,8 @@ bounded c s h k =
       coefficients = λ i below. at_most (unsigned_abs (coefficient_at c i) * s ^ i) (10 ^ 22)
           (passes_below (λ i. nat_le (unsigned_abs (coefficient_at c i) * s ^ i) (10 ^ 22)) (length c) h i below);
       amounts = λ m below. amounts_within (bernstein_numerators c m)
-          (passes_below (λ n. list_all (λ b. nat_le (unsigned_abs b) (10 ^ 12 * 2488320)) (bernstein_numerators c n)) s k m below);
+          (passes_below (λ n. list_all (λ b. nat_le (unsigned_abs b) (10 ^ 12 * 2488320)) (bernstein_numerators c n))
+          s k m below);
     }
 
 -- lists of one, two and three

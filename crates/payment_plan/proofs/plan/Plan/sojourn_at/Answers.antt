@@ -1,4 +1,4 @@
-use Rattle.std.proofs.Common.{ap, ◌∙◌, sym, subst, arith, pos, false, ◌-◌, ◌+◌, ◌≡◌, Bool, true, refl, FitsSigned, rules}
+use Rattle.std.proofs.Common.{◌≡◌, ◌-◌, ◌+◌, pos, Bool, true, false, FitsSigned, arith, rules, refl, ap, sym, subst, ◌∙◌}
 use Rattle.std.specs.Int.{from_bool, w64}
 use Rattle.std.proofs.lemmas.Int.{to_z-of_z}
 use Rattle.model_specs.specs.Product.{Step}
@@ -19,7 +19,8 @@ pub step_at-requires : goal.step_at-requires
 step_at-requires c =
     let steps_are = c.steps_of_state.ensures ∙ ap (λ s. steps_in_state s c.args.state) c.sojourns.ensures.sojourns in
     let good = good_sojourns c.args.self.now c.args.state c.sojourns.ensures.allowed.payments in
-    rw steps_are (first_start c.args.self.now.months c.args.month (steps_in_state c.args.self.now.sojourns c.args.state) good)
+    rw steps_are
+    (first_start c.args.self.now.months c.args.month (steps_in_state c.args.self.now.sojourns c.args.state) good)
 
 pub returns-in-Benefits : goal.returns-in-Benefits
 returns-in-Benefits c =
@@ -49,7 +50,8 @@ returns-in-Pattern c =
     let step : record_of c.constant.result
     ≡ constant_step 0 (unit_amount (pays_in_month c.args.self.now.pattern c.args.state c.args.month)) =
     simp to_z-of_z at c.constant.ensures ∙ ap (constant_step 0) amount in
-    let same : AreSameUnit (record_of c.constant.result) (sojourn_at (pattern_of c.args.self.now) c.args.state c.args.month)
+    let same : AreSameUnit (record_of c.constant.result)
+    (sojourn_at (pattern_of c.args.self.now) c.args.state c.args.month)
     (pays_in_month c.args.self.now.pattern c.args.state c.args.month) =
     record { first = ap (λ s. s.c) step; second = pattern_rate c.args.self.now c.args.state c.args.month } in
     let P : Step → Type 0 = λ s. IsBoundedStep s.c (c.args.month - c.constant.result.from + 1) in
@@ -61,7 +63,9 @@ returns-in-Pattern c =
       load = same_load _ _ _ c.args.month same;
       amount = same_amount _ _ _ c.args.month same;
       started = omega (arith, ap (λ s. s.from) step);
-      bounded = subst P (sym step) (unit_bounded (pays_in_month c.args.self.now.pattern c.args.state c.args.month) (c.args.month - c.constant.result.from + 1));
+      bounded = subst P (sym step)
+          (unit_bounded (pays_in_month c.args.self.now.pattern c.args.state c.args.month)
+          (c.args.month - c.constant.result.from + 1));
     })
   where
     unit_is : (b : Bool) → pos (from_bool b) ≡ unit_amount b
