@@ -1,0 +1,5 @@
+pub mod ModelLaws
+pub mod PlainLedger
+pub mod PlainProduct
+pub mod PlainRun
+pub mod PlainSystem

@@ -1,0 +1,11 @@
+//! The model's definitions at a plain product, and the theory of its one-state run.
+#![tactic(auto)]
+
+mod model_laws;
+mod run_laws;
+
+pub use model_laws::{
+    plain_ledgers, plain_months, plain_numbers_are_in_range, plain_products_are_admissible,
+    plain_rows_hold, plain_values,
+};
+pub use run_laws::plain_runs;
