@@ -1,6 +1,11 @@
 pub mod ConstantNumerators
 pub mod LedgerSizes
+pub mod OneState
+pub mod PlainCellRuns
 pub mod PlainCells
+pub mod PlainLedgers
 pub mod PlainMoments
+pub mod PlainMonths
 pub mod PlainTame
 pub mod PlainTaylor
+pub mod PlainValues
