@@ -6,6 +6,8 @@ pub mod PlainCells
 pub mod PlainLedgers
 pub mod PlainMoments
 pub mod PlainMonths
+pub mod PlainRanges
+pub mod PlainRules
 pub mod PlainTame
 pub mod PlainTaylor
 pub mod PlainValues

@@ -67,7 +67,7 @@ module _ (product : Product) (force rate : ℤ) (formed : IsWellFormed product)
   some_den : 1 ≤ product.den
   some_den = formed.head.some_denominator
 
-  no_rates : (month : ℕ) → rho product month ≡ pos 0
+  pub no_rates : (month : ℕ) → rho product month ≡ pos 0
   no_rates month = rw (plain.one_state, no_transitions product formed plain.one_state) refl
 
   pub curve-is : (month : ℕ) → month < product.months

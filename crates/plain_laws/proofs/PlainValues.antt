@@ -56,19 +56,23 @@ cell-six : (den months cell m : ℕ) (a : ℤ)
     → number_at (per_cell (cells_of_32 Backward) (cell_polynomial (cells_of_32 Backward)
     (all_over den (a ∷ pos 0 ∷ pos 0 ∷ pos 0 ∷ pos 0 ∷ pos 0 ∷ [])) months cell)) m
     ≡ over (pos 1) 384 *ℚ number_at (over a den ∷ []) m
-cell-six den months cell m a = rw (nothing_over den)
-    (number_at-scale_list (over (pos 1) 384) _ m
+cell-six den months cell m a =
+    ap (λ z. number_at (per_cell (cells_of_32 Backward) (cell_polynomial (cells_of_32 Backward)
+    (over a den ∷ z ∷ z ∷ z ∷ z ∷ z ∷ []) months cell)) m) (nothing_over den)
+    ∙ number_at-scale_list (over (pos 1) 384) _ m
     ∙ ap (λ x. over (pos 1) 384 *ℚ x)
-    (moved-six (over (negsuc 0) 384) (over (pos (suc (months * 32 + cell))) 384) (over a den) m))
+    (moved-six (over (negsuc 0) 384) (over (pos (suc (months * 32 + cell))) 384) (over a den) m)
 
 cell-four : (den months cell m : ℕ) (a : ℤ)
     → number_at (per_cell (cells_of_32 Backward) (cell_polynomial (cells_of_32 Backward)
     (all_over den (a ∷ pos 0 ∷ pos 0 ∷ pos 0 ∷ [])) months cell)) m
     ≡ over (pos 1) 384 *ℚ number_at (over a den ∷ []) m
-cell-four den months cell m a = rw (nothing_over den)
-    (number_at-scale_list (over (pos 1) 384) _ m
+cell-four den months cell m a =
+    ap (λ z. number_at (per_cell (cells_of_32 Backward) (cell_polynomial (cells_of_32 Backward)
+    (over a den ∷ z ∷ z ∷ z ∷ []) months cell)) m) (nothing_over den)
+    ∙ number_at-scale_list (over (pos 1) 384) _ m
     ∙ ap (λ x. over (pos 1) 384 *ℚ x)
-    (moved-four (over (negsuc 0) 384) (over (pos (suc (months * 32 + cell))) 384) (over a den) m))
+    (moved-four (over (negsuc 0) 384) (over (pos (suc (months * 32 + cell))) 384) (over a den) m)
 
 times-nothing : (x : Fraction) → x *ℚ whole (pos 0) ≡ whole (pos 0)
 times-nothing x = ring (x ∷ []) (hlevel terms) refl
@@ -185,12 +189,11 @@ module _ (product : Product) (force rate : ℤ) (formed : IsWellFormed product)
   pub rows_hold : (row : Row) (from_degree : ℕ) → row.kind ≡ Value
       → (Holds row product from_degree ↔ Encloses p from_degree row.lo row.hi)
   rows_hold row from_degree is_value = (
-    λ holds. encloses row from_degree (subst says is_value holds),
-    λ ends. subst says (sym is_value) (holds_value row from_degree ends),
+    λ holds. encloses row from_degree
+        (subst (λ kind. (n : ℕ) → from_degree ≤ n → HoldsAtDegree product n row kind) is_value holds),
+    λ ends. subst (λ kind. (n : ℕ) → from_degree ≤ n → HoldsAtDegree product n row kind) (sym is_value)
+        (holds_value row from_degree ends),
   )
-    where
-      abbrev says : RowKind → Type 0
-      says kind = (n : ℕ) → from_degree ≤ n → HoldsAtDegree product n row kind
 
 pub plain_values : PlainValues
 plain_values product force rate formed is_plain n = value-is product force rate formed is_plain n
