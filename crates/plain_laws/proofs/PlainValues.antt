@@ -59,7 +59,8 @@ cell-six : (den months cell m : ℕ) (a : ℤ)
 cell-six den months cell m a =
     ap (λ z. number_at (per_cell (cells_of_32 Backward) (cell_polynomial (cells_of_32 Backward)
     (over a den ∷ z ∷ z ∷ z ∷ z ∷ z ∷ []) months cell)) m) (nothing_over den)
-    ∙ number_at-scale_list (over (pos 1) 384) _ m
+    ∙ number_at-scale_list (over (pos 1) 384) (cell_polynomial (cells_of_32 Backward)
+    (over a den ∷ whole (pos 0) ∷ whole (pos 0) ∷ whole (pos 0) ∷ whole (pos 0) ∷ whole (pos 0) ∷ []) months cell) m
     ∙ ap (λ x. over (pos 1) 384 *ℚ x)
     (moved-six (over (negsuc 0) 384) (over (pos (suc (months * 32 + cell))) 384) (over a den) m)
 
@@ -70,7 +71,8 @@ cell-four : (den months cell m : ℕ) (a : ℤ)
 cell-four den months cell m a =
     ap (λ z. number_at (per_cell (cells_of_32 Backward) (cell_polynomial (cells_of_32 Backward)
     (over a den ∷ z ∷ z ∷ z ∷ []) months cell)) m) (nothing_over den)
-    ∙ number_at-scale_list (over (pos 1) 384) _ m
+    ∙ number_at-scale_list (over (pos 1) 384) (cell_polynomial (cells_of_32 Backward)
+    (over a den ∷ whole (pos 0) ∷ whole (pos 0) ∷ whole (pos 0) ∷ []) months cell) m
     ∙ ap (λ x. over (pos 1) 384 *ℚ x)
     (moved-four (over (negsuc 0) 384) (over (pos (suc (months * 32 + cell))) 384) (over a den) m)
 
