@@ -1,3 +1,4 @@
+pub mod CellCounts
 pub mod ConstantNumerators
 pub mod LedgerSizes
 pub mod OneState

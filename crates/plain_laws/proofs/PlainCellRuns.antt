@@ -1,7 +1,8 @@
 -- In a cell with one constant force of interest, no transition and a constant payment, Thiele's equation of the
 -- model is that of one number.
 use Rattle.std.specs.Prelude.{◌≡◌, ℕ, zero, suc, ◌+◌, ◌-◌, ◌<◌, pos, [], ◌∷◌, refl}
-use Rattle.std.proofs.Common.{ap, sym, ◌∙◌, arith}
+use Rattle.std.proofs.Common.{ap, sym, ◌∙◌}
+use Rattle.std.proofs.Math.Nat.{sub-zero, zero-add, suc-add, add-suc}
 use mathlib.Core.Path.{ap₂}
 use Rattle.frac_laws.specs.Fraction.{Fraction, whole, over, opposite, ◌+ℚ◌, ◌*ℚ◌}
 use Rattle.frac_laws.specs.Sums.{sum_to}
@@ -67,10 +68,7 @@ module _ (cell : CellCurves) (p : PlainProduct) (plain : IsPlainCell cell p) (st
   all_at k j = number_at (coefficient (thiele_system cell) start k) j
 
   taken-first : (k : ℕ) → taken 0 (all_at (k - 0)) ≡ opposite (cell_interest p) *ℚ w k
-  taken-first k = taken-is 0 (all_at (k - 0)) ∙ ap₂ (λ i j. opposite i *ℚ w j) plain.interest (same k)
-    where
-      same : (k : ℕ) → k - 0 ≡ k
-      same k = omega arith
+  taken-first k = taken-is 0 (all_at (k - 0)) ∙ ap₂ (λ i j. opposite i *ℚ w j) plain.interest (sub-zero k)
 
   taken-later : (k m : ℕ) → taken (suc m) (all_at (k - suc m)) ≡ whole (pos 0)
   taken-later k m = taken-is (suc m) (all_at (k - suc m))
@@ -101,14 +99,8 @@ pub plain_month-is : (system : ℕ → System) (p : PlainProduct) (n cells befor
     ≡ run.taylor_value p (number_at v 0) n)
     → (v : Vector) → number_at v 0 ≡ value_before_term p n before
     → number_at (month_back system n cells v) 0 ≡ value_before_term p n (cells + before)
-plain_month-is system p n zero before steps v starts = starts ∙ ap (value_before_term p n) (none before)
-  where
-    none : (n : ℕ) → n ≡ 0 + n
-    none n = omega arith
+plain_month-is system p n zero before steps v starts = starts ∙ ap (value_before_term p n) (sym (zero-add before))
 plain_month-is system p n (suc cells) before steps v starts =
     plain_month-is system p n cells (suc before) steps (taylor_value (system cells) v n)
     (steps cells v ∙ ap (λ end. run.taylor_value p end n) starts)
-    ∙ ap (value_before_term p n) (next cells before)
-  where
-    next : (n m : ℕ) → n + suc m ≡ suc n + m
-    next n m = omega arith
+    ∙ ap (value_before_term p n) (add-suc cells before ∙ sym (suc-add cells before))

@@ -1,11 +1,12 @@
 -- The interest and the payment of a plain product's cell are small.
 use Rattle.std.specs.Prelude.{◌≡◌, ℕ, pos, negsuc, ◌*◌, ◌^◌, ◌≤◌, ℤ, ◌*ℤ◌, ◌≤ℤ◌, unsigned_abs}
 use Rattle.std.specs.Prelude.{[], ◌∷◌}
-use Rattle.std.proofs.Common.{refl, arith, pow_pos}
+use Rattle.std.proofs.Common.{refl, ◌∙◌, arith, pow_pos}
 use Rattle.std.proofs.lemmas.Int.{ints}
 use Rattle.frac_laws.specs.Fraction.{whole, over, ◌*ℚ◌, ◌≤ℚ◌, size}
 use Rattle.frac_laws.proofs.Linear.{linear, claims}
-use Rattle.frac_laws.proofs.Quotients.{over_le_of_cross, over_mul, inverse}
+use Rattle.frac_laws.proofs.FractionTerms.{ring, terms}
+use Rattle.frac_laws.proofs.Quotients.{over_is, over_le_of_cross, over_mul, inverse}
 use Rattle.frac_laws.proofs.Sizes.{size_le_of_between}
 use Rattle.plain_laws.specs.PlainProduct.{PlainProduct, HasRanges}
 use Rattle.plain_laws.specs.PlainRun.{cell_interest, cell_payment}
@@ -53,3 +54,7 @@ payment_small p g most =
 -- 2^g undoes the scaling
 pub scaling-inverse : (g : ℕ) → whole (pos (2 ^ g)) *ℚ scaling g ≡ whole (pos 1)
 scaling-inverse g = inverse (2 ^ g) (omega (arith, pow_pos g))
+
+-- 0 over a denominator
+pub nothing_over : (d : ℕ) → over (pos 0) d ≡ whole (pos 0)
+nothing_over d = over_is (pos 0) d ∙ ring (over (pos 1) d ∷ []) (hlevel terms) refl

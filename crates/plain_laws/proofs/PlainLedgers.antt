@@ -1,6 +1,7 @@
 -- The ledgers of the model go month by month, and those of a plain product over all cells: they agree.
 use Rattle.std.specs.Prelude.{◌≡◌, ℕ, zero, suc, ◌+◌, ◌-◌, ◌*◌, ◌<◌, ◌≤◌, ℤ, refl}
 use Rattle.std.proofs.Common.{ap, sym, ◌∙◌, arith}
+use Rattle.std.proofs.Math.Nat.{sub-zero, zero-add, suc-add}
 use mathlib.Core.Path.{ap₂}
 use Rattle.frac_laws.specs.Ledger.{grow, scale_of_bound, tolerance_first}
 use Rattle.model_specs.specs.Product.{Product}
@@ -15,29 +16,22 @@ use Rattle.plain_laws.specs.PlainProduct.{PlainProduct, plain_of}
 use Rattle.plain_laws.specs.PlainLedger.{ledger_after}
 use Rattle.plain_laws.specs.PlainLedger as plain
 use Rattle.plain_laws.specs.ModelLaws.{HasPlainMonths, HasPlainLedgers, PlainLedgers}
+use Rattle.plain_laws.proofs.CellCounts.{month_adds}
 use Rattle.plain_laws.proofs.PlainMonths.{plain_months}
 
 -- some cells of a month go on with a ledger
 cells_go_on : (kappa add before cells : ℕ) → grow_cells kappa add (ledger_after kappa add before) cells
     ≡ ledger_after kappa add (cells + before)
-cells_go_on kappa add before zero = ap (ledger_after kappa add) (none before)
-  where
-    none : (n : ℕ) → n ≡ 0 + n
-    none n = omega arith
+cells_go_on kappa add before zero = ap (ledger_after kappa add) (sym (zero-add before))
 cells_go_on kappa add before (suc cells) =
-    ap (λ w. grow w kappa add) (cells_go_on kappa add before cells) ∙ ap (ledger_after kappa add) (next cells before)
-  where
-    next : (n m : ℕ) → suc (n + m) ≡ suc n + m
-    next n m = omega arith
+    ap (λ w. grow w kappa add) (cells_go_on kappa add before cells)
+    ∙ ap (ledger_after kappa add) (sym (suc-add cells before))
 
 -- a month more has 32 cells more
 month_more : (kappa add months : ℕ) → grow_cells kappa add (ledger_after kappa add (32 * months)) 32
     ≡ ledger_after kappa add (32 * suc months)
 month_more kappa add months =
-    cells_go_on kappa add (32 * months) 32 ∙ ap (ledger_after kappa add) (more months)
-  where
-    more : (n : ℕ) → 32 + 32 * n ≡ 32 * suc n
-    more n = omega arith
+    cells_go_on kappa add (32 * months) 32 ∙ ap (ledger_after kappa add) (month_adds months)
 
 nothing : (n : ℕ) → n + 1024 * 0 ≡ n
 nothing n = omega arith
@@ -84,12 +78,12 @@ module _ (product : Product) (force rate : ℤ) (formed : IsWellFormed product)
   scale-is : scale product (payment_plan product) ≡ plain.scale p
   scale-is = ap scale_of_bound bound1024-is
 
+  radius_at-is : (date : ℕ) → radius product date
+      ≡ ledger_after (plain.kappa40 p) 1024 (32 * (product.months - date))
+  radius_at-is date = radius-is product p months-are (product.months - date) (omega arith)
+
   radius_at_issue-is : radius product 0 ≡ plain.radius p
-  radius_at_issue-is =
-      ap (radius_before_term product) (all product.months) ∙ radius-is product p months-are product.months (omega arith)
-    where
-      all : (n : ℕ) → n - 0 ≡ n
-      all n = omega arith
+  radius_at_issue-is = radius_at-is 0 ∙ ap (λ n. ledger_after (plain.kappa40 p) 1024 (32 * n)) (sub-zero product.months)
 
   tolerance-is : (row : Row) → row.kind ≡ Value → tolerance product row ≡ plain.tolerance p
   tolerance-is row is_value =
@@ -99,6 +93,7 @@ module _ (product : Product) (force rate : ℤ) (formed : IsWellFormed product)
   plain_ledgers-of = record {
     bound = bound1024-is;
     scale_is = scale-is;
+    radius_at = radius_at-is;
     radius_is = radius_at_issue-is;
     tolerance_is = tolerance-is;
   }

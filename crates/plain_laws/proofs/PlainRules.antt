@@ -17,7 +17,7 @@ use Rattle.plain_laws.specs.PlainProduct.{PlainProduct, plain_of, HasRanges}
 use Rattle.plain_laws.specs.PlainLedger.{kappa40, pay1024, ledger_after}
 use Rattle.plain_laws.specs.PlainLedger as plain
 use Rattle.plain_laws.specs.PlainRun.{cells_of}
-use Rattle.plain_laws.specs.ModelLaws.{PlainProductsAreAdmissible}
+use Rattle.plain_laws.specs.ModelLaws.{PlainProductsBreakNoRule}
 use Rattle.plain_laws.proofs.ConstantNumerators.{six_of}
 use Rattle.plain_laws.proofs.LedgerSizes.{ledger_after_most, kappa40_most, pay1024_most, cells_most}
 use Rattle.plain_laws.proofs.OneState.{no_transitions}
@@ -95,7 +95,7 @@ module _ (product : Product) (force rate : ℤ) (formed : IsWellFormed product)
   rule-18 = ap (λ bound. nat_le bound (2 ^ 66)) (plain_ledgers product force rate formed is_plain).bound
       ∙ nat_le-true (plain.bound1024 p) (2 ^ 66) bound_most
 
-  none_broken : first_broken product ≡ None
+  pub none_broken : first_broken product ≡ None
   none_broken =
       rw (
         unbroken product 15 (obeys_rule_15 product) rule-15,
@@ -104,6 +104,5 @@ module _ (product : Product) (force rate : ℤ) (formed : IsWellFormed product)
         rule-18,
       ) refl
 
-pub plain_products_are_admissible : PlainProductsAreAdmissible
-plain_products_are_admissible product force rate formed is_plain =
-    record { well_formed = formed; valuation = none_broken product force rate formed is_plain }
+pub plain_products_break_no_rule : PlainProductsBreakNoRule
+plain_products_break_no_rule product force rate formed is_plain = none_broken product force rate formed is_plain

@@ -2,6 +2,7 @@
 use Rattle.std.specs.Prelude.{◌≡◌, ◌↔◌, ℕ, zero, suc, ◌+◌, ◌-◌, ◌*◌, ◌^◌, ◌<◌, ◌≤◌, ℤ, pos, negsuc, ◌*ℤ◌}
 use Rattle.std.specs.Prelude.{List, [], ◌∷◌, length, refl}
 use Rattle.std.proofs.Common.{ap, sym, subst, ◌∙◌, arith}
+use Rattle.std.proofs.Math.Nat.{sub-zero}
 use Rattle.std.proofs.lemmas.Int.{ints}
 use mathlib.Core.Path.{ap₂}
 use Rattle.frac_laws.specs.Fraction.{Fraction, whole, over, ◌+ℚ◌, ◌*ℚ◌}
@@ -16,18 +17,17 @@ use Rattle.model_specs.specs.Payments.{Plan, payment_plan, sojourn_at, lump_at}
 use Rattle.model_specs.specs.RecordRules.{IsWellFormed}
 use Rattle.model_specs.specs.Cells.{CellCurves, Backward, cells_of_32, cell_polynomial, per_cell, cell_curves}
 use Rattle.model_specs.specs.Systems.{thiele_system, interest_at, intensity_at, sojourn_rate_at}
-use Rattle.model_specs.specs.Runs.{first_before_term, lump_vector, value_before_issue}
+use Rattle.model_specs.specs.Runs.{first_before_term, lump_vector, reserve, value_before_issue}
 use Rattle.model_specs.specs.Rows.{Row, RowKind, Value, Holds, HoldsAtDegree, IsBetween}
 use Rattle.model_specs.specs.ValuationRules.{IsPlain}
 use Rattle.model_specs.proofs.CellShapes.{cells_are_quintic}
 use Rattle.plain_laws.specs.PlainProduct.{PlainProduct, plain_of}
 use Rattle.plain_laws.specs.PlainRun.{cell_interest, payment_at, value_before_term, value_at_issue, Encloses}
-use Rattle.plain_laws.specs.ModelLaws.{PlainValues, PlainRowsHold}
+use Rattle.plain_laws.specs.ModelLaws.{HasPlainValues, PlainValues, PlainRowsHold}
+use Rattle.plain_laws.proofs.CellCounts.{month_adds}
 use Rattle.plain_laws.proofs.OneState.{no_transitions, start_is}
+use Rattle.plain_laws.proofs.PlainCells.{nothing_over}
 use Rattle.plain_laws.proofs.PlainCellRuns.{IsPlainCell, plain_cell-is, plain_month-is}
-
-nothing_over : (d : ℕ) → over (pos 0) d ≡ whole (pos 0)
-nothing_over d = over_is (pos 0) d ∙ ring (over (pos 1) d ∷ []) (hlevel terms) refl
 
 -- a constant stays one where it is moved and stretched
 moved-six : (h b x : Fraction) (m : ℕ)
@@ -153,23 +153,25 @@ module _ (product : Product) (force rate : ℤ) (formed : IsWellFormed product)
       (number_at-add_lists before (lump_vector product plan (suc month)) 0
       ∙ ap₂ (λ x y. x +ℚ y) (first-is n left (omega (arith, within))) (no_lumps (suc month))
       ∙ ring (value_before_term p n (32 * left) ∷ []) (hlevel terms) refl)
-      ∙ ap (value_before_term p n) (more left)
-    where
-      more : (n : ℕ) → 32 + 32 * n ≡ 32 * suc n
-      more n = omega arith
+      ∙ ap (value_before_term p n) (month_adds left)
 
   no_lump_at_issue : (state : ℕ) → whole (lump_at plan 0 state) ≡ whole (pos 0)
   no_lump_at_issue state = rw is_plain.no_lump refl
 
-  pub value-is : (n : ℕ) → value_before_issue product plan n ≡ value_at_issue p n
+  -- so at a date, and just before issue
+  reserve-is : (n date : ℕ) → reserve product plan n date 0 ≡ value_before_term p n (32 * (product.months - date))
+  reserve-is n date = first-is n (product.months - date) (omega arith)
+
+  value-is : (n : ℕ) → value_before_issue product plan n ≡ value_at_issue p n
   value-is n =
-      ap₂ (λ left state. number_at (first_before_term (cells_of_32 Backward) product plan n left) state
-      +ℚ whole (lump_at plan 0 product.start)) (all product.months) (start_is product formed is_plain.one_state)
-      ∙ ap₂ (λ x y. x +ℚ y) (first-is n product.months (omega arith)) (no_lump_at_issue product.start)
+      ap₂ (λ x y. x +ℚ y)
+      (ap (reserve product plan n 0) (start_is product formed is_plain.one_state) ∙ reserve-is n 0
+      ∙ ap (λ months. value_before_term p n (32 * months)) (sub-zero product.months))
+      (no_lump_at_issue product.start)
       ∙ ring (value_at_issue p n ∷ []) (hlevel terms) refl
-    where
-      all : (n : ℕ) → n - 0 ≡ n
-      all n = omega arith
+
+  pub plain_values-of : HasPlainValues product p
+  plain_values-of = record { at_a_date = reserve-is; at_issue = value-is }
 
   -- what a row of the value says
   encloses : (row : Row) (from_degree : ℕ)
@@ -198,7 +200,7 @@ module _ (product : Product) (force rate : ℤ) (formed : IsWellFormed product)
   )
 
 pub plain_values : PlainValues
-plain_values product force rate formed is_plain n = value-is product force rate formed is_plain n
+plain_values product force rate formed is_plain = plain_values-of product force rate formed is_plain
 
 pub plain_rows_hold : PlainRowsHold
 plain_rows_hold product force rate formed is_plain row from_degree is_value =

@@ -1,19 +1,20 @@
 -- What the model says of a plain product that is well formed, by its four numbers alone.
-use Rattle.std.specs.Prelude.{◌≡◌, ◌↔◌, ℕ, ◌<◌, ℤ, None}
+use Rattle.std.specs.Prelude.{◌≡◌, ◌↔◌, ℕ, ◌-◌, ◌*◌, ◌<◌, ℤ, None}
 use Rattle.model_specs.specs.Product.{Product}
 use Rattle.model_specs.specs.Payments.{payment_plan}
 use Rattle.model_specs.specs.RecordRules.{IsWellFormed}
-use Rattle.model_specs.specs.ValuationRules.{IsPlain, IsAdmissible}
+use Rattle.model_specs.specs.ValuationRules.{IsPlain, first_broken}
 use Rattle.model_specs.specs.Growth.{pay, greatest_sum}
 use Rattle.model_specs.specs.Growth as model_growth
 use Rattle.model_specs.specs.Ledgers.{greatest_lump}
 use Rattle.model_specs.specs.Ledgers as model
-use Rattle.model_specs.specs.Runs.{value_before_issue}
+use Rattle.model_specs.specs.Runs.{reserve, value_before_issue}
 use Rattle.model_specs.specs.Rows.{Row, Value, Holds}
 use Rattle.model_specs.specs.Rows as rows
 use Rattle.plain_laws.specs.PlainProduct.{PlainProduct, plain_of, HasRanges}
-use Rattle.plain_laws.specs.PlainLedger.{kappa40, pay1024, bound1024, scale, radius, tolerance}
-use Rattle.plain_laws.specs.PlainRun.{value_at_issue, Encloses}
+use Rattle.plain_laws.specs.PlainLedger.{kappa40, pay1024, ledger_after, bound1024, scale, radius}
+use Rattle.plain_laws.specs.PlainLedger.{tolerance}
+use Rattle.plain_laws.specs.PlainRun.{value_before_term, value_at_issue, Encloses}
 
 -- a fact of each product that is well formed and plain, and of its four numbers
 abbrev pub OfPlain : (Product → PlainProduct → Type 0) → Type 0
@@ -38,22 +39,29 @@ PlainMonths = OfPlain HasPlainMonths
 pub record HasPlainLedgers (product : Product) (p : PlainProduct) : Type 0 where
   pub bound : model.bound1024 product (payment_plan product) ≡ bound1024 p
   pub scale_is : model.scale product (payment_plan product) ≡ scale p
+  pub radius_at : (date : ℕ) → model.radius product date
+      ≡ ledger_after (kappa40 p) 1024 (32 * (product.months - date))
   pub radius_is : model.radius product 0 ≡ radius p
   pub tolerance_is : (row : Row) → row.kind ≡ Value → rows.tolerance product row ≡ tolerance p
 
 abbrev pub PlainLedgers : Type 0
 PlainLedgers = OfPlain HasPlainLedgers
 
--- the value just before issue, by the model's run of each degree, is the one-state value at issue
+-- the reserve at a date and the value just before issue, by the model's run of each degree, are the values of the
+-- one-state run
+pub record HasPlainValues (product : Product) (p : PlainProduct) : Type 0 where
+  pub at_a_date : (n date : ℕ) → reserve product (payment_plan product) n date 0
+      ≡ value_before_term p n (32 * (product.months - date))
+  pub at_issue : (n : ℕ) → value_before_issue product (payment_plan product) n ≡ value_at_issue p n
+
 abbrev pub PlainValues : Type 0
-PlainValues = OfPlain (λ product p. (n : ℕ)
-    → value_before_issue product (payment_plan product) n ≡ value_at_issue p n)
+PlainValues = OfPlain HasPlainValues
 
 -- so a row of the value holds from a degree on exactly where its ends enclose the one-state value from it on
 abbrev pub PlainRowsHold : Type 0
 PlainRowsHold = OfPlain (λ product p. (row : Row) (from_degree : ℕ) → row.kind ≡ Value
     → (Holds row product from_degree ↔ Encloses p from_degree row.lo row.hi))
 
--- a plain product breaks none of the rules 15 to 18, so it can be valued
-abbrev pub PlainProductsAreAdmissible : Type 0
-PlainProductsAreAdmissible = OfPlain (λ product p. IsAdmissible product)
+-- a plain product breaks none of the rules 15 to 18
+abbrev pub PlainProductsBreakNoRule : Type 0
+PlainProductsBreakNoRule = OfPlain (λ product p. first_broken product ≡ None)

@@ -5,7 +5,7 @@ mod model_laws;
 mod run_laws;
 
 pub use model_laws::{
-    plain_ledgers, plain_months, plain_numbers_are_in_range, plain_products_are_admissible,
+    plain_ledgers, plain_months, plain_numbers_are_in_range, plain_products_break_no_rule,
     plain_rows_hold, plain_values,
 };
 pub use run_laws::plain_runs;

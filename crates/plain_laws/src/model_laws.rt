@@ -1,7 +1,7 @@
 //! A well-formed plain product in the model, by its four numbers. Each function says laws and returns at once.
 
 ghost use Rattle.plain_laws.specs.ModelLaws.{PlainNumbersAreInRange, PlainMonths, PlainLedgers};
-ghost use Rattle.plain_laws.specs.ModelLaws.{PlainValues, PlainRowsHold, PlainProductsAreAdmissible};
+ghost use Rattle.plain_laws.specs.ModelLaws.{PlainValues, PlainRowsHold, PlainProductsBreakNoRule};
 
 /// The term, the denominator, the force and the rate are in range.
 pub fn plain_numbers_are_in_range()
@@ -18,7 +18,7 @@ pub fn plain_ledgers()
     ensures { PlainLedgers }
 {}
 
-/// The value just before issue is the one-state value at issue, in every degree.
+/// The reserve at a date and the value just before issue are the values of the one-state run, in every degree.
 pub fn plain_values()
     ensures { PlainValues }
 {}
@@ -28,7 +28,7 @@ pub fn plain_rows_hold()
     ensures { PlainRowsHold }
 {}
 
-/// A plain product breaks none of the rules 15 to 18, so it can be valued.
-pub fn plain_products_are_admissible()
-    ensures { PlainProductsAreAdmissible }
+/// A plain product breaks none of the rules 15 to 18.
+pub fn plain_products_break_no_rule()
+    ensures { PlainProductsBreakNoRule }
 {}
