@@ -9,6 +9,7 @@ use Rattle.std.proofs.Math.Nat.{lt_of_mul-lt-mul_right, mul-le-mul_right}
 use Rattle.std.specs.Int.{div_ceil}
 use Rattle.frac_laws.specs.Ledger.{grow}
 use Rattle.frac_laws.proofs.LedgerLaws.{scale_of_bound-scale}
+use Rattle.plain_laws.specs.LedgerLaws.{LedgersAreSmall}
 use Rattle.plain_laws.specs.PlainRun.{cells_of}
 use Rattle.plain_laws.specs.PlainLedger.{phi40, kappa40, rate_pay1024, pay1024, ledger_after, bound1024, scale}
 use Rattle.plain_laws.specs.PlainLedger.{size_below_zero}
@@ -156,3 +157,37 @@ rate_within_scale p ranges =
     rate_most 0 (unsigned_abs p.rate) (pay1024 p) (cells_of p) (bound1024 p) (2 ^ scale p)
     (div_ceil_times (1024 * unsigned_abs p.rate) 192 (omega arith)).0
     (cells_least p ranges) (ledger_after_least (kappa40 p) (pay1024 p) (cells_of p)) (bound_within_scale p)
+
+-- the radius up to the cells of the term
+pub radius_most : (p : PlainProduct) (cells : ℕ) → HasRanges p → cells ≤ cells_of p
+    → ledger_after (kappa40 p) 1024 cells ≤ 2 ^ 27
+radius_most p cells ranges few =
+    let within : cells ≤ 38400 = omega (arith, few, cells_most p ranges) in
+    omega (
+      arith,
+      within,
+      ledger_after_most (kappa40 p) 1024 cells 1024 (kappa40_most p ranges) within
+          (omega arith) (omega arith),
+    )
+
+-- the bound is at most 2^60
+bound_most : (p : PlainProduct) → HasRanges p → bound1024 p ≤ 2 ^ 60
+bound_most p ranges =
+    small (bound1024 p) (cells_of p)
+    (ledger_after_most (kappa40 p) (pay1024 p) (cells_of p) (2 ^ 43) (kappa40_most p ranges) (cells_most p ranges)
+    (omega arith) (pay1024_most p.rate ranges.most_rate)) (cells_most p ranges)
+  where
+    small : (bound cells : ℕ) → bound ≤ 2 * 2 ^ 43 * cells → cells ≤ 38400 → bound ≤ 2 ^ 60
+    small bound cells ledger few = omega (arith, ledger, few)
+
+pub ledgers_are_small : LedgersAreSmall
+ledgers_are_small p ranges = record {
+  least_cells = cells_least p ranges;
+  most_cells = cells_most p ranges;
+  growth = kappa40_most p ranges;
+  payment = pay1024_most p.rate ranges.most_rate;
+  bound = bound_most p ranges;
+  bound_within_scale = bound_within_scale p;
+  rate_within_scale = rate_within_scale p ranges;
+  radius = λ cells few. radius_most p cells ranges few;
+}

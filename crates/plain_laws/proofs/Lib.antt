@@ -1,10 +1,13 @@
 pub mod CellCounts
 pub mod ConstantNumerators
+pub mod EndWidths
 pub mod LedgerSizes
 pub mod OneState
 pub mod PlainCellRuns
 pub mod PlainCells
+pub mod PlainEnds
 pub mod PlainLedgers
+pub mod PlainMidpoints
 pub mod PlainMoments
 pub mod PlainMonths
 pub mod PlainRanges
@@ -12,3 +15,4 @@ pub mod PlainRules
 pub mod PlainTame
 pub mod PlainTaylor
 pub mod PlainValues
+pub mod StoredNumbers

@@ -19,7 +19,7 @@ use Rattle.plain_laws.specs.PlainLedger as plain
 use Rattle.plain_laws.specs.PlainRun.{cells_of}
 use Rattle.plain_laws.specs.ModelLaws.{PlainProductsBreakNoRule}
 use Rattle.plain_laws.proofs.ConstantNumerators.{six_of}
-use Rattle.plain_laws.proofs.LedgerSizes.{ledger_after_most, kappa40_most, pay1024_most, cells_most}
+use Rattle.plain_laws.proofs.LedgerSizes.{ledgers_are_small}
 use Rattle.plain_laws.proofs.OneState.{no_transitions}
 use Rattle.plain_laws.proofs.PlainMonths.{curve-is, no_rates}
 use Rattle.plain_laws.proofs.PlainLedgers.{plain_ledgers}
@@ -81,19 +81,12 @@ module _ (product : Product) (force rate : ℤ) (formed : IsWellFormed product)
   rule-17 month = ap (λ r. int_le r (pos (2 * month_unit product))) (no_rates product force rate formed is_plain month)
       ∙ not_negative (2 * month_unit product)
 
-  bound_most : plain.bound1024 p ≤ 2 ^ 66
-  bound_most =
-      let cells = cells_most p ranges in
-      let ledger = ledger_after_most (kappa40 p) (pay1024 p) (cells_of p) (2 ^ 43) (kappa40_most p ranges) cells
-      (omega arith) (pay1024_most rate ranges.most_rate) in
-      small (plain.bound1024 p) (cells_of p) ledger cells
-    where
-      small : (bound cells : ℕ) → bound ≤ 2 * 2 ^ 43 * cells → cells ≤ 38400 → bound ≤ 2 ^ 66
-      small bound cells ledger few = omega (arith, ledger, few)
-
   rule-18 : obeys_rule_18 product ≡ true
   rule-18 = ap (λ bound. nat_le bound (2 ^ 66)) (plain_ledgers product force rate formed is_plain).bound
-      ∙ nat_le-true (plain.bound1024 p) (2 ^ 66) bound_most
+      ∙ nat_le-true (plain.bound1024 p) (2 ^ 66) (below (plain.bound1024 p) (ledgers_are_small p ranges).bound)
+    where
+      below : (bound : ℕ) → bound ≤ 2 ^ 60 → bound ≤ 2 ^ 66
+      below bound most = omega (arith, most)
 
   pub none_broken : first_broken product ≡ None
   none_broken =

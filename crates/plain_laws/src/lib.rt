@@ -8,4 +8,6 @@ pub use model_laws::{
     plain_ledgers, plain_months, plain_numbers_are_in_range, plain_products_break_no_rule,
     plain_rows_hold, plain_values,
 };
-pub use run_laws::plain_runs;
+pub use run_laws::{
+    ends_enclose, ledgers_are_small, midpoints_are_small, plain_runs, stored_numbers_are_near,
+};
