@@ -15,4 +15,5 @@ pub mod PlainRules
 pub mod PlainTame
 pub mod PlainTaylor
 pub mod PlainValues
+pub mod Samples
 pub mod StoredNumbers

@@ -9,10 +9,9 @@ use Rattle.frac_laws.proofs.Order.{le_trans, le_of_equal}
 use Rattle.frac_laws.proofs.Floors.{floor_le, le_ceiling}
 use Rattle.frac_laws.proofs.Quotients.{over_is, whole_mul, whole_add, whole_sub}
 use Rattle.frac_laws.proofs.Sizes.{le_of_size_le, opposite_le_of_size_le}
-use Rattle.plain_laws.specs.PlainProduct.{PlainProduct}
-use Rattle.plain_laws.specs.PlainRun.{value_at_issue, Encloses}
+use Rattle.plain_laws.specs.PlainRun.{value_at_issue}
 use Rattle.plain_laws.specs.PlainSystem.{scaling}
-use Rattle.plain_laws.specs.Ends.{AreEnds, EndsEnclose, EndsAreNarrow}
+use Rattle.plain_laws.specs.Ends.{EndsEnclose, EndsAreNarrow}
 use Rattle.plain_laws.proofs.EndWidths.{ends_within}
 use Rattle.plain_laws.proofs.PlainCells.{scaling-inverse}
 use Rattle.plain_laws.proofs.PlainMoments.{distance-single}

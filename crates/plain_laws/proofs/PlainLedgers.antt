@@ -5,9 +5,8 @@ use Rattle.std.proofs.Math.Nat.{sub-zero, zero-add, suc-add}
 use mathlib.Core.Path.{ap₂}
 use Rattle.frac_laws.specs.Ledger.{grow, scale_of_bound, tolerance_first}
 use Rattle.model_specs.specs.Product.{Product}
-use Rattle.model_specs.specs.Payments.{Plan, payment_plan}
+use Rattle.model_specs.specs.Payments.{payment_plan}
 use Rattle.model_specs.specs.RecordRules.{IsWellFormed}
-use Rattle.model_specs.specs.Growth.{kappa40, pay}
 use Rattle.model_specs.specs.Ledgers.{grow_cells, greatest_lump, bound_before_term, bound1024, scale}
 use Rattle.model_specs.specs.Ledgers.{radius_before_term, radius}
 use Rattle.model_specs.specs.Rows.{Row, Value, tolerance, tolerance_of}

@@ -1,27 +1,20 @@
 -- The midpoint of a plain product's value: 0 at the term, and small up to the cells of the term.
-use Rattle.std.specs.Prelude.{◌≡◌, ℕ, suc, pos, ◌^◌, ◌≤◌, ◌<◌, ℤ, neg_ℤ}
+use Rattle.std.specs.Prelude.{◌≡◌, pos, ◌^◌, ◌≤◌, ℤ, neg_ℤ}
 use Rattle.std.specs.Prelude.{unsigned_abs, [], ◌∷◌}
 use Rattle.std.proofs.Common.{refl, ap, sym, ◌∙◌, arith}
 use Rattle.std.proofs.lemmas.Int.{ints}
 use Rattle.frac_laws.specs.Fraction.{whole, over, ◌-ℚ◌, ◌*ℚ◌, ◌≤ℚ◌, size}
-use Rattle.frac_laws.specs.Ledger.{grow}
-use Rattle.frac_laws.specs.Norms.{Sup, norm_of_vector}
 use Rattle.frac_laws.proofs.FractionTerms.{ring, terms}
 use Rattle.frac_laws.proofs.Linear.{linear, claims, ◌⊞◌}
 use Rattle.frac_laws.proofs.Order.{le_trans, le_of_equal}
-use Rattle.frac_laws.proofs.Quotients.{over_is, over_le_of_cross, cross_of_over_le}
+use Rattle.frac_laws.proofs.Quotients.{over_le_of_cross, cross_of_over_le}
 use Rattle.frac_laws.proofs.Sizes.{le_of_size_le, opposite_le_of_size_le}
 use Rattle.frac_laws.proofs.Norms.{size_zero}
-use Rattle.cell_laws.specs.ErrorLaws.{distance}
 use Rattle.plain_laws.specs.Ends.{NothingIsTheMidpointAtTheTerm, MidpointsAreSmall}
 use Rattle.plain_laws.proofs.PlainCells.{nothing_over}
-use Rattle.plain_laws.specs.PlainLedger.{kappa40, ledger_after, scale}
-use Rattle.plain_laws.specs.PlainSystem.{scaling, plain_system, scaled_run, IsMidpoint}
-use Rattle.plain_laws.specs.PlainProduct.{PlainProduct, HasRanges}
-use Rattle.plain_laws.proofs.PlainTame.{norm-single}
-use Rattle.plain_laws.proofs.PlainTaylor.{runs_are_taylor_values}
+use Rattle.plain_laws.specs.PlainLedger.{scale}
+use Rattle.plain_laws.specs.PlainSystem.{scaling}
 use Rattle.plain_laws.proofs.PlainMoments.{scaled_value, distance-single, values_within_scale}
-use Rattle.plain_laws.proofs.LedgerSizes.{grow_mono, kappa40_most, ledger_after_most, cells_most}
 
 -- at the term the midpoint is 0
 pub midpoint_at_term : NothingIsTheMidpointAtTheTerm

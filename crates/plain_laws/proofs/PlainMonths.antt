@@ -1,6 +1,6 @@
 -- The numbers of a month of a plain product.
-use Rattle.std.specs.Prelude.{◌≡◌, ℕ, suc, ◌+◌, ◌-◌, ◌*◌, ◌^◌, ◌<◌, ◌≤◌, min, max, ℤ, pos, neg_ℤ, ◌-ℤ◌, ◌*ℤ◌}
-use Rattle.std.specs.Prelude.{unsigned_abs, List, [], ◌∷◌, map, sum, length, refl}
+use Rattle.std.specs.Prelude.{◌≡◌, ℕ, ◌+◌, ◌-◌, ◌*◌, ◌^◌, ◌<◌, ◌≤◌, max, ℤ, pos, neg_ℤ, ◌-ℤ◌, ◌*ℤ◌}
+use Rattle.std.specs.Prelude.{unsigned_abs, map, length, refl}
 use Rattle.std.specs.Int.{div_ceil}
 use Rattle.std.proofs.Common.{ap, sym, ◌∙◌, arith}
 use Rattle.std.proofs.lemmas.Grind.{div_ceil_times}

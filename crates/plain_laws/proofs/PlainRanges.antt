@@ -1,7 +1,7 @@
 -- The numbers of a well-formed plain product are in range: the rate by the rule on the size of payments.
 use Rattle.std.specs.Prelude.{◌≡◌, ℕ, zero, suc, ◌-◌, ◌*◌, ◌^◌, ◌<◌, ◌≤◌, ℤ, pos, ◌*ℤ◌, unsigned_abs, Bool, true, false}
-use Rattle.std.specs.Prelude.{Option, Some, cond, nat_le, ◌==◌, All, filter, find, map, option_map, unwrap_or}
-use Rattle.std.specs.Prelude.{List, [], ◌∷◌, length, slice_index, slice_index_or, refl}
+use Rattle.std.specs.Prelude.{Some, cond, nat_le, ◌==◌, All, filter, find, option_map, unwrap_or}
+use Rattle.std.specs.Prelude.{List, [], ◌∷◌, length, slice_index, slice_index_or}
 use Rattle.std.proofs.Common.{ap, sym, subst, ◌∙◌, inl, inr, arith, lit≤}
 use Rattle.std.proofs.lemmas.Bool.{cases_lt}
 use Rattle.std.proofs.lemmas.List.{get_or_past, get_or_default, length-map}
@@ -12,7 +12,7 @@ use Rattle.model_specs.specs.Payments.{payment_plan, constant_step, sojourn_at}
 use Rattle.model_specs.specs.MonthNumbers.{bernstein_numerators}
 use Rattle.model_specs.specs.RecordRules.{IsWellFormed, IsPayment, IsBoundedPayment, StartsRise, step_starts, months_of}
 use Rattle.model_specs.specs.ValuationRules.{IsPlain}
-use Rattle.plain_laws.specs.PlainProduct.{PlainProduct, plain_of, HasRanges}
+use Rattle.plain_laws.specs.PlainProduct.{plain_of, HasRanges}
 use Rattle.plain_laws.specs.ModelLaws.{PlainNumbersAreInRange}
 use Rattle.plain_laws.proofs.ConstantNumerators.{six_of, numerators-constant, constant-four, numerator-size}
 

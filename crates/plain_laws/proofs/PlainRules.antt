@@ -1,22 +1,19 @@
 -- A well-formed plain product breaks none of the rules 15 to 18.
 use Rattle.std.specs.Prelude.{◌≡◌, ℕ, zero, suc, ◌*◌, ◌^◌, ◌<◌, ◌≤◌, nat_le, ℤ, pos, neg_ℤ, ◌*ℤ◌, ◌≤ℤ◌, int_le}
-use Rattle.std.specs.Prelude.{Bool, true, not, cond, ◌&&◌, Option, None, option_map, find, List, [], ◌∷◌, refl}
+use Rattle.std.specs.Prelude.{Bool, true, not, ◌&&◌, None, option_map, find, refl}
 use Rattle.std.specs.List.{list_all}
 use Rattle.std.proofs.Common.{ap, ◌∙◌, arith}
 use Rattle.std.proofs.lemmas.Int.{ints}
 use mathlib.Core.Path.{ap₂}
 use Rattle.model_specs.specs.Whole.{list_of}
 use Rattle.model_specs.specs.Product.{Product}
-use Rattle.model_specs.specs.Payments.{payment_plan}
 use Rattle.model_specs.specs.RecordRules.{IsWellFormed}
-use Rattle.model_specs.specs.MonthNumbers.{curve_numerators, month_unit, rho}
-use Rattle.model_specs.specs.Ledgers.{bound1024}
-use Rattle.model_specs.specs.ValuationRules.{IsPlain, RuleBreak, first_given, broken_in_months, broken_at_last}
+use Rattle.model_specs.specs.MonthNumbers.{month_unit}
+use Rattle.model_specs.specs.ValuationRules.{IsPlain, RuleBreak, broken_in_months}
 use Rattle.model_specs.specs.ValuationRules.{obeys_rule_15, obeys_rule_16, obeys_rule_17, obeys_rule_18, first_broken}
 use Rattle.plain_laws.specs.PlainProduct.{PlainProduct, plain_of, HasRanges}
 use Rattle.plain_laws.specs.PlainLedger.{kappa40, pay1024, ledger_after}
 use Rattle.plain_laws.specs.PlainLedger as plain
-use Rattle.plain_laws.specs.PlainRun.{cells_of}
 use Rattle.plain_laws.specs.ModelLaws.{PlainProductsBreakNoRule}
 use Rattle.plain_laws.proofs.ConstantNumerators.{six_of}
 use Rattle.plain_laws.proofs.LedgerSizes.{ledgers_are_small}

@@ -1,15 +1,15 @@
 -- The model's run of a plain product is the one-state run.
 use Rattle.std.specs.Prelude.{◌≡◌, ◌↔◌, ℕ, zero, suc, ◌+◌, ◌-◌, ◌*◌, ◌^◌, ◌<◌, ◌≤◌, ℤ, pos, negsuc, ◌*ℤ◌}
-use Rattle.std.specs.Prelude.{List, [], ◌∷◌, length, refl}
+use Rattle.std.specs.Prelude.{[], ◌∷◌, refl}
 use Rattle.std.proofs.Common.{ap, sym, subst, ◌∙◌, arith}
 use Rattle.std.proofs.Math.Nat.{sub-zero}
 use Rattle.std.proofs.lemmas.Int.{ints}
 use mathlib.Core.Path.{ap₂}
 use Rattle.frac_laws.specs.Fraction.{Fraction, whole, over, ◌+ℚ◌, ◌*ℚ◌}
-use Rattle.frac_laws.specs.Lists.{Vector, number_at, add_lists}
+use Rattle.frac_laws.specs.Lists.{number_at, add_lists}
 use Rattle.frac_laws.specs.Polynomials.{shifted, stretched, all_over}
 use Rattle.frac_laws.proofs.FractionTerms.{ring, terms}
-use Rattle.frac_laws.proofs.Quotients.{over_is, over_mul}
+use Rattle.frac_laws.proofs.Quotients.{over_mul}
 use Rattle.frac_laws.proofs.Vectors.{number_at-scale_list, number_at-add_lists}
 use Rattle.model_specs.specs.Curve.{piece_at}
 use Rattle.model_specs.specs.Product.{Product}
@@ -18,11 +18,11 @@ use Rattle.model_specs.specs.RecordRules.{IsWellFormed}
 use Rattle.model_specs.specs.Cells.{CellCurves, Backward, cells_of_32, cell_polynomial, per_cell, cell_curves}
 use Rattle.model_specs.specs.Systems.{thiele_system, interest_at, intensity_at, sojourn_rate_at}
 use Rattle.model_specs.specs.Runs.{first_before_term, lump_vector, reserve, value_before_issue}
-use Rattle.model_specs.specs.Rows.{Row, RowKind, Value, Holds, HoldsAtDegree, IsBetween}
+use Rattle.model_specs.specs.Rows.{Row, Value, Holds, HoldsAtDegree, IsBetween}
 use Rattle.model_specs.specs.ValuationRules.{IsPlain}
 use Rattle.model_specs.proofs.CellShapes.{cells_are_quintic}
 use Rattle.plain_laws.specs.PlainProduct.{PlainProduct, plain_of}
-use Rattle.plain_laws.specs.PlainRun.{cell_interest, payment_at, value_before_term, value_at_issue, Encloses}
+use Rattle.plain_laws.specs.PlainRun.{payment_at, value_before_term, value_at_issue, Encloses}
 use Rattle.plain_laws.specs.ModelLaws.{HasPlainValues, PlainValues, PlainRowsHold}
 use Rattle.plain_laws.proofs.CellCounts.{month_adds}
 use Rattle.plain_laws.proofs.OneState.{no_transitions, start_is}

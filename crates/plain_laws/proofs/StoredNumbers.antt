@@ -1,18 +1,16 @@
 -- The numbers that a plain product's system stores are close to the exact ones.
-use Rattle.std.specs.Prelude.{◌≡◌, ℕ, pos, ◌*◌, ◌^◌, ◌≤◌, ℤ, ◌*ℤ◌, ◌≤ℤ◌, neg_ℤ}
-use Rattle.std.specs.Prelude.{unsigned_abs, [], ◌∷◌}
+use Rattle.std.specs.Prelude.{◌≡◌, ℕ, pos, ◌*◌, ◌^◌, ◌≤◌, ℤ, ◌*ℤ◌, neg_ℤ}
+use Rattle.std.specs.Prelude.{[], ◌∷◌}
 use Rattle.std.proofs.Common.{refl, ap, sym, ◌∙◌, arith, pow_pos}
-use Rattle.std.proofs.lemmas.Int.{ints}
-use Rattle.frac_laws.specs.Fraction.{Fraction, whole, over, ◌+ℚ◌, ◌-ℚ◌, ◌*ℚ◌, ◌≤ℚ◌, opposite, size}
+use Rattle.frac_laws.specs.Fraction.{Fraction, whole, over, ◌+ℚ◌, ◌-ℚ◌, ◌*ℚ◌, ◌≤ℚ◌, size}
 use Rattle.frac_laws.specs.Rounding.{floor_of}
 use Rattle.frac_laws.proofs.FractionTerms.{ring, terms}
 use Rattle.frac_laws.proofs.Linear.{linear, claims, natural, ◌⊞◌, ◌⊠◌, ◌·◌}
 use Rattle.frac_laws.proofs.Order.{le_trans, le_of_equal, le_of_lt}
 use Rattle.frac_laws.proofs.Floors.{floor_le, lt_next}
 use Rattle.frac_laws.proofs.Quotients.{over_is, over_mul, over-opposite, times_one, inverse, whole_mul}
-use Rattle.frac_laws.proofs.Quotients.{over_le_of_cross}
 use Rattle.frac_laws.proofs.Sizes.{size_le_of_between}
-use Rattle.plain_laws.specs.PlainRun.{cell_interest, cell_payment}
+use Rattle.plain_laws.specs.PlainRun.{cell_payment}
 use Rattle.plain_laws.specs.PlainSystem.{scaling}
 use Rattle.plain_laws.specs.StoredNumbers.{StoredInterestIsNear, StoredPaymentIsNear}
 

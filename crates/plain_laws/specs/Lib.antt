@@ -5,4 +5,5 @@ pub mod PlainLedger
 pub mod PlainProduct
 pub mod PlainRun
 pub mod PlainSystem
+pub mod Samples
 pub mod StoredNumbers
