@@ -90,9 +90,9 @@ module _ (product : Product) (force rate : ℤ) (formed : IsWellFormed product)
 
   plain_ledgers-of : HasPlainLedgers product p
   plain_ledgers-of = record {
-    bound = bound1024-is;
+    bound_is = bound1024-is;
     scale_is = scale-is;
-    radius_at = radius_at-is;
+    radius_at_a_date = radius_at-is;
     radius_is = radius_at_issue-is;
     tolerance_is = tolerance-is;
   }

@@ -79,7 +79,7 @@ module _ (product : Product) (force rate : ℤ) (formed : IsWellFormed product)
       ∙ not_negative (2 * month_unit product)
 
   rule-18 : obeys_rule_18 product ≡ true
-  rule-18 = ap (λ bound. nat_le bound (2 ^ 66)) (plain_ledgers product force rate formed is_plain).bound
+  rule-18 = ap (λ bound. nat_le bound (2 ^ 66)) (plain_ledgers product force rate formed is_plain).bound_is
       ∙ nat_le-true (plain.bound1024 p) (2 ^ 66) (below (plain.bound1024 p) (ledgers_are_small p ranges).bound)
     where
       below : (bound : ℕ) → bound ≤ 2 ^ 60 → bound ≤ 2 ^ 66

@@ -138,7 +138,7 @@ sample_ledgers =
     record {
       growth = refl;
       payment = refl;
-      bound = ledgers.bound ∙ bound-is;
+      bound = ledgers.bound_is ∙ bound-is;
       scale_is = ledgers.scale_is ∙ scale-is;
       radius_is = ledgers.radius_is ∙ radius-is;
       tolerance_is = λ row is_value. ledgers.tolerance_is row is_value ∙ tolerance-is;

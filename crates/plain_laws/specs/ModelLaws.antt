@@ -37,9 +37,9 @@ PlainMonths = OfPlain HasPlainMonths
 
 -- so the ledgers of the model, month by month, are those over all cells of the term
 pub record HasPlainLedgers (product : Product) (p : PlainProduct) : Type 0 where
-  pub bound : model.bound1024 product (payment_plan product) ≡ bound1024 p
+  pub bound_is : model.bound1024 product (payment_plan product) ≡ bound1024 p
   pub scale_is : model.scale product (payment_plan product) ≡ scale p
-  pub radius_at : (date : ℕ) → model.radius product date
+  pub radius_at_a_date : (date : ℕ) → model.radius product date
       ≡ ledger_after (kappa40 p) 1024 (32 * (product.months - date))
   pub radius_is : model.radius product 0 ≡ radius p
   pub tolerance_is : (row : Row) → row.kind ≡ Value → rows.tolerance product row ≡ tolerance p
