@@ -15,5 +15,6 @@ pub mod PlainRules
 pub mod PlainTame
 pub mod PlainTaylor
 pub mod PlainValues
+pub mod RoundedQuotients
 pub mod Samples
 pub mod StoredNumbers

@@ -11,9 +11,9 @@ use Rattle.frac_laws.proofs.Quotients.{over_le_of_cross, cross_of_over_le}
 use Rattle.frac_laws.proofs.Sizes.{le_of_size_le, opposite_le_of_size_le}
 use Rattle.frac_laws.proofs.Norms.{size_zero}
 use Rattle.plain_laws.specs.Ends.{NothingIsTheMidpointAtTheTerm, MidpointsAreSmall}
-use Rattle.plain_laws.proofs.PlainCells.{nothing_over}
 use Rattle.plain_laws.specs.PlainLedger.{scale}
 use Rattle.plain_laws.specs.PlainSystem.{scaling}
+use Rattle.plain_laws.proofs.PlainCells.{nothing_over}
 use Rattle.plain_laws.proofs.PlainMoments.{scaled_value, distance-single, values_within_scale}
 
 -- at the term the midpoint is 0
