@@ -1,0 +1,4 @@
+pub mod Checks
+pub mod MembersLemmas
+pub mod Pigeonhole
+pub mod StateLemmas
