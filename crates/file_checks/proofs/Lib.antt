@@ -1,5 +1,9 @@
 pub mod Checks
+pub mod InOrder
 pub mod MembersLemmas
+pub mod PayerLemmas
+pub mod PieceLemmas
 pub mod Pigeonhole
 pub mod StateLemmas
+pub mod StepLemmas
 pub mod TransitionLemmas

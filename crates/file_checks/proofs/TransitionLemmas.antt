@@ -12,7 +12,8 @@ use Rattle.product_file.specs.Checks.{first_failed}
 use Rattle.product_file.specs.Members.{item_at}
 use Rattle.product_file.specs.HeadRules.{rule_3, state_names}
 use Rattle.product_file.specs.TransitionRule.{transition_items, is_transition, state_at, state_index, pair_of}
-use Rattle.product_file.specs.TransitionRule.{is_same_pair, is_good_transition}
+use Rattle.product_file.specs.TransitionRule.{is_same_pair, is_good_transition, rule_7}
+use Rattle.file_checks.proofs.Checks.{holds_at}
 use Rattle.file_checks.proofs.Pigeonhole.{at_most}
 use Rattle.file_checks.proofs.StateLemmas.{at_most_twelve, state_index-below}
 
@@ -96,3 +97,10 @@ few_transitions tree k names inside good = at_most (code_at tree) 144 k below di
     differ i j first second =
         codes_differ _ _ _ _ (to_below i (omega arith)) (to_below j second)
         (other_pair tree i j first (omega arith) (good_parts tree j (good j second)))
+
+-- so a file that obeys rules 3 and 7 has 144 at most
+pub transitions-le : (tree : Members) → first_failed (rule_3 tree) ≡ None → first_failed (rule_7 tree) ≡ None
+    → length (transition_items tree) ≤ 144
+transitions-le tree names good =
+    let count = length (transition_items tree) in
+    few_transitions tree count names (omega arith) (λ i below. holds_at count i (is_good_transition tree) good below)

@@ -53,6 +53,16 @@ pub fn array_at<'a>(table: &'a Table, key: &str) -> Option<&'a Array>
     }
 }
 
+/// The table at a key.
+pub fn table_at<'a>(table: &'a Table, key: &str) -> Option<&'a Table>
+    ensures { option_map (λ t. table_view t.now) result ≡ option_and_then as_table (get_member key.now (table_view table.now)) }
+{
+    match member_at(table, key) {
+        Some(value) => value.as_table(),
+        None => None,
+    }
+}
+
 /// Whether a whole number is at a key.
 pub fn has_whole(table: &Table, key: &str) -> bool
     ensures { result ≡ is_some (whole_at key.now (table_view table.now)) }
@@ -78,10 +88,7 @@ pub fn has_array(table: &Table, key: &str) -> bool
 pub fn has_table(table: &Table, key: &str) -> bool
     ensures { result ≡ is_some (option_and_then as_table (get_member key.now (table_view table.now))) }
 {
-    match member_at(table, key) {
-        Some(value) => value.is_table(),
-        None => false,
-    }
+    table_at(table, key).is_some()
 }
 
 /// The whole number at a key, and 0 where there is none.

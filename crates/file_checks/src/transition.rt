@@ -4,14 +4,15 @@ ghost use Rattle.std.specs.Prelude.{◌≡◌, ◌<◌, length, map, codes, None
 ghost use Rattle.std.specs.List.{list_any};
 ghost use Rattle.toml.specs.View.{view, table_view};
 ghost use Rattle.product_file.specs.Checks.{first_failed};
-ghost use Rattle.product_file.specs.Members.{has_no_key_but, items_of, members_of, text_of};
+ghost use Rattle.product_file.specs.Members.{has_no_key_but};
 ghost use Rattle.product_file.specs.HeadRules.{rule_3};
 ghost use Rattle.product_file.specs.TransitionRule.{transition_keys, is_transition, transition_items, state_at};
 ghost use Rattle.product_file.specs.TransitionRule.{state_index, pair_of, is_same_pair, is_good_transition, rule_7};
 
 use crate::head::may_have_array;
 use crate::names::state_of;
-use crate::table::{has_array, has_no_key_but, has_text, item, items_before, items_of, text_of};
+use crate::table::{has_array, has_no_key_but, has_text, item, items_before, items_of};
+use crate::within::text_within;
 use toml::{Table, Value};
 
 // The keys of a transition.
@@ -36,16 +37,6 @@ fn is_transition(value: &Value) -> bool
         & has_array(table, "rate")
         & may_have_array(table, "sum")
         & has_transition_keys(table)
-}
-
-/// The string at a key of a table, and an empty one where there is none, or no table.
-pub fn text_within<'a>(value: &'a Value, key: &str) -> &'a str
-    ensures { result.now ≡ text_of key.now (members_of (view value.now)) }
-{
-    match value.as_table() {
-        Some(table) => text_of(table, key),
-        None => "",
-    }
 }
 
 /// The index of the state that a key of a table names, if it names one.
