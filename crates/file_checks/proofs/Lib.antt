@@ -1,5 +1,6 @@
 pub mod Checks
 pub mod InOrder
+pub mod LumpLemmas
 pub mod MembersLemmas
 pub mod PayerLemmas
 pub mod PieceLemmas

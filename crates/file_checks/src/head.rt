@@ -1,12 +1,14 @@
 //! Rules 1, 2 and 4 to 6: the keys of the top table and their types, the format, the term, the denominator, the start.
 
-ghost use Rattle.std.specs.Prelude.{◌≡◌, ◌^◌, ◌<◌, length, pos, is_some, option_and_then};
+ghost use Rattle.std.specs.Prelude.{◌≡◌, ◌^◌, ◌<◌, ◌≤◌, length, pos, None, is_some, option_and_then};
 ghost use Rattle.toml.specs.Data.{as_table, get_member};
 ghost use Rattle.toml.specs.View.{table_view};
+ghost use Rattle.model_specs.specs.Whole.{natural_part};
 ghost use Rattle.product_file.specs.Checks.{first_failed};
 ghost use Rattle.product_file.specs.Members.{has_no_key_but, whole_of};
 ghost use Rattle.product_file.specs.HeadRules.{rule_1, rule_2, rule_4, rule_5, is_from_to, is_format_1};
 ghost use Rattle.product_file.specs.HeadRules.{may_have_array, may_have_table, top_keys};
+ghost use Rattle.product_file.specs.CurveRules.{months_of_term};
 
 use crate::table::{has_array, has_no_key_but, has_table, has_text, has_whole, is_absent, whole_of};
 use toml::Table;
@@ -78,6 +80,23 @@ pub fn is_format_1(tree: &Table) -> bool
     ensures { result ≡ is_format_1 (table_view tree.now) }
 {
     is_from_to(1, 1, whole_of(tree, "format"))
+}
+
+/// The number, or 0 where it is below 0.
+pub fn natural_part(number: i64) -> u64
+    ensures { result ≡ natural_part number }
+{
+    if number < 0 { 0 } else { number as u64 }
+}
+
+/// The term in months.
+pub fn term(tree: &Table) -> u32
+    requires { first_failed (rule_4 (table_view tree.now)) ≡ None }
+    ensures value { result ≡ months_of_term (table_view tree.now) }
+    ensures some { 1 ≤ result }
+    ensures most { result ≤ 1200 }
+{
+    natural_part(whole_of(tree, "months")) as u32
 }
 
 /// The first place that breaks rule 1: the number of a key that is missing or of a wrong type, and 11 for an unknown

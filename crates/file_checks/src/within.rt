@@ -4,10 +4,12 @@ ghost use Rattle.std.specs.Prelude.{◌≡◌, ◌<◌, length, map, is_some, po
 ghost use Rattle.std.specs.List.{list_all};
 ghost use Rattle.toml.specs.Data.{as_integer};
 ghost use Rattle.toml.specs.View.{view, table_view};
+ghost use Rattle.model_specs.specs.Whole.{natural_part};
 ghost use Rattle.model_specs.specs.MonthNumbers.{coefficient_at};
 ghost use Rattle.product_file.specs.Members.{is_absent, whole_of, text_of, items_of, members_of, wholes_of};
 ghost use Rattle.product_file.specs.CurveRules.{has_wholes};
 
+use crate::head::natural_part;
 use crate::table::{has_array, is_absent, item, items_of, text_of, whole_of};
 use toml::{Table, Value};
 
@@ -29,6 +31,13 @@ pub fn whole_within(value: &Value, key: &str) -> i64
         Some(table) => whole_of(table, key),
         None => 0,
     }
+}
+
+/// The natural number at a key of a table, and 0 where there is none, or no table.
+pub fn natural_within(value: &Value, key: &str) -> u64
+    ensures { result ≡ natural_part (whole_of key.now (members_of (view value.now))) }
+{
+    natural_part(whole_within(value, key))
 }
 
 /// The string at a key of a table, and an empty one where there is none, or no table.
