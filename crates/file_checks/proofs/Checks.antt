@@ -154,7 +154,7 @@ place_first : (base p : ℕ) (o rest more : Option ℕ) → Some p ≡ place_in 
 place_first base p None rest more some go = go some
 place_first base p (Some x) rest more some go = some
 
-place_none : (base : ℕ) (o rest : Option ℕ) → place_in base o rest ≡ None → (o ≡ None) × (rest ≡ None)
+pub place_none : (base : ℕ) (o rest : Option ℕ) → place_in base o rest ≡ None → (o ≡ None) × (rest ≡ None)
 place_none base None rest none = (refl, none)
 place_none base (Some x) rest none = cc
 

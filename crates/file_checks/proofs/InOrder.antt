@@ -1,10 +1,11 @@
 -- Starts in order rise from 0 and are below the term, so there are at most as many as the term has months.
-use Rattle.std.proofs.Common.{◌≡◌, ◌≢◌, ℕ, zero, suc, ◌-◌, ◌<◌, ◌≤◌, ℤ, pos, ◌≤ℤ◌, ◌<ℤ◌, Bool, true, ◌&&◌, codes, List}
+use Rattle.std.proofs.Common.{◌≡◌, ◌≢◌, ℕ, zero, suc, ◌-◌, ◌<◌, ◌≤◌, ℤ, pos, negsuc, ◌≤ℤ◌, ◌<ℤ◌, Bool, true, ◌&&◌, codes, List}
 use Rattle.std.proofs.Common.{None, refl, ap, sym, ◌∙◌, arith}
 use Rattle.std.specs.Prelude.{int_le, int_lt}
 use Rattle.std.proofs.lemmas.Bool.{and_parts}
 use Rattle.std.proofs.lemmas.Int.{ints}
 use Rattle.toml.specs.Data.{Data, Members}
+use Rattle.model_specs.specs.Whole.{natural_part}
 use Rattle.product_file.specs.Checks.{first_failed}
 use Rattle.product_file.specs.Members.{whole_of, item_at}
 use Rattle.product_file.specs.HeadRules.{rule_4}
@@ -69,3 +70,14 @@ few_in_order months items zero term ordered = omega arith
 few_in_order months items (suc k) term ordered =
     below_term k (start_of (item_at items k)) months (start-above months items k (λ i below. ordered i (omega arith)))
     (start-below months items k (ordered k (omega arith))) term
+
+small : (a months : ℤ) → a <ℤ months → months ≤ℤ pos 1200 → natural_part a ≤ 1200
+small (pos a) months below most = omega (arith, ints)
+small (negsuc a) months below most = omega arith
+
+-- a start in order is at most 1200
+pub start-small : (tree : Members) (items : List Data) (i : ℕ) → first_failed (rule_4 tree) ≡ None
+    → is_in_order (whole_of (codes "months") tree) items i ≡ true → natural_part (start_of (item_at items i)) ≤ 1200
+start-small tree items i term ordered =
+    small (start_of (item_at items i)) (whole_of (codes "months") tree)
+    (start-below (whole_of (codes "months") tree) items i ordered) (term-le tree term)

@@ -1,3 +1,4 @@
+pub mod BoundLemmas
 pub mod Checks
 pub mod InOrder
 pub mod LumpLemmas
@@ -5,6 +6,7 @@ pub mod MembersLemmas
 pub mod PayerLemmas
 pub mod PieceLemmas
 pub mod Pigeonhole
+pub mod SizeLemmas
 pub mod StateLemmas
 pub mod StepLemmas
 pub mod TransitionLemmas

@@ -66,7 +66,7 @@ few_good tree k names inside good =
     (λ i j first second. other_index tree i j first (omega arith) (good_parts tree j (good j second)))
 
 -- a sojourn that obeys rule 10 is good
-good_from : (b : Bool) (checks : List Bool) → first_failed (cond b checks (false ∷ [])) ≡ None → b ≡ true
+pub good_from : (b : Bool) (checks : List Bool) → first_failed (cond b checks (false ∷ [])) ≡ None → b ≡ true
 good_from true checks h = refl
 good_from false checks h = cc
 

@@ -1,17 +1,22 @@
 //! Finds the first place at which the tree of a product file breaks each of rules 1 to 14.
 #![tactic(auto)]
 
+mod bounds;
 mod head;
+mod held;
 mod lump;
 mod names;
 mod pattern;
 mod pieces;
+mod sizes;
 mod steps;
 mod table;
 mod transition;
 mod within;
 
+pub use bounds::{amount_break, size_break};
 pub use head::{denominator_break, format_break, is_format_1, key_break, natural_part, term, term_break};
+pub use held::{piece_coefficients, step_coefficients};
 pub use lump::{lump_break, lumps};
 pub use names::{name_break, start_break, state_of, states};
 pub use pattern::{payer_break, payer_index, payers, pattern_break, premium_whole};
