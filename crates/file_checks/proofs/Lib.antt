@@ -1,5 +1,6 @@
 pub mod BoundLemmas
 pub mod Checks
+pub mod Given
 pub mod InOrder
 pub mod LumpLemmas
 pub mod MembersLemmas
