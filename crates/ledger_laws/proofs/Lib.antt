@@ -1,0 +1,3 @@
+pub mod Extremes
+pub mod MonthFacts
+pub mod Rounding
