@@ -1,15 +1,15 @@
 -- Bounds on the greatest and the least of a list, and on sums.
-use Rattle.std.specs.Prelude.{◌≡◌, ℕ, zero, suc, ◌+◌, ◌*◌, ◌<◌, ◌≤◌, max, ℤ, pos, negsuc, ◌+ℤ◌, ◌≤ℤ◌, neg_ℤ}
-use Rattle.std.specs.Prelude.{Bool, true, false, ◌&&◌, int_le, All, List, [], ◌∷◌, length, map, filter, cond, refl}
-use Rattle.std.specs.Prelude.{unsigned_abs, slice_index_or, int_lt, Option, Some, None, find}
-use Rattle.std.specs.Int.{int_max, int_min}
+use Rattle.std.specs.Prelude.{◌≡◌, ℕ, zero, suc, ◌<◌, ◌≤◌, max, ℤ, pos, ◌≤ℤ◌}
+use Rattle.std.specs.Prelude.{Bool, true, false, ◌&&◌, int_le, All, List, [], ◌∷◌, length, cond, refl}
+use Rattle.std.specs.Prelude.{slice_index_or, int_lt, Option, Some, None, find}
+use Rattle.std.specs.Int.{int_min}
 use Rattle.std.specs.List.{list_all}
 use Rattle.std.proofs.Common.{arith, ap, inl, inr}
 use Rattle.std.proofs.lemmas.Bool.{false≢true, cases_lt}
 use Rattle.std.proofs.lemmas.Int.{ints, clamps}
 use Rattle.std.proofs.lemmas.List.Elements.{All-nil, All-tail, All-head, All-cons}
-use Rattle.model_specs.specs.Whole.{list_of, places, whole_sum, greatest_whole, least_whole}
-use Rattle.model_specs.specs.Whole.{greatest_natural, natural_part}
+use Rattle.model_specs.specs.Whole.{list_of, whole_sum, greatest_whole, least_whole}
+use Rattle.model_specs.specs.Whole.{greatest_natural}
 
 -- a test of the order that passes
 pub le_from_test : (a b : ℤ) → int_le a b ≡ true → a ≤ℤ b

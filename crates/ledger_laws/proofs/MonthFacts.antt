@@ -1,25 +1,22 @@
 -- How large the numbers of a month are.
 use Rattle.std.specs.Prelude.{◌≡◌, ℕ, zero, suc, ◌+◌, ◌*◌, ◌^◌, ◌<◌, ◌≤◌, ℤ, pos, negsuc, ◌*ℤ◌, ◌≤ℤ◌, neg_ℤ}
-use Rattle.std.specs.Prelude.{Bool, true, false, not, ◌&&◌, int_le, nat_abs, unsigned_abs, ◌==◌}
-use Rattle.std.specs.Prelude.{Option, Some, None, option_map, find, All, List, [], ◌∷◌, length, map, filter, slice_index_or, refl}
+use Rattle.std.specs.Prelude.{Bool, true, false, not, ◌&&◌, int_le, unsigned_abs, ◌==◌}
+use Rattle.std.specs.Prelude.{Option, Some, None, option_map, find, All, List, [], ◌∷◌, length, map, slice_index_or, refl}
 use Rattle.std.specs.Int.{div_ceil}
 use Rattle.std.specs.List.{list_all}
-use Rattle.std.proofs.Common.{arith, sym, ◌∙◌}
-use Rattle.std.proofs.lemmas.Bool.{false≢true}
+use Rattle.std.proofs.Common.{arith, sym}
 use Rattle.std.proofs.lemmas.Int.{ints}
-use Rattle.std.proofs.lemmas.Grind.{div_ceil_times}
 use Rattle.std.proofs.lemmas.List.Elements.{All-map, All-filter, All-weaker}
-use Rattle.std.proofs.Math.Nat.{pow-le-pow_left, lt_of_mul-lt-mul_right}
-use Rattle.model_specs.specs.Whole.{list_of, places, whole_sum, greatest_whole, least_whole}
+use Rattle.std.proofs.Math.Nat.{pow-le-pow_left}
+use Rattle.model_specs.specs.Whole.{list_of, places, greatest_whole, least_whole}
 use Rattle.model_specs.specs.Whole.{greatest_natural, natural_part}
 use Rattle.model_specs.specs.Product.{Product, transition_at, no_transition}
 use Rattle.model_specs.specs.MonthNumbers.{curve_numerators, month_unit, greatest_rate, exits, rho, iota, nu}
 use Rattle.model_specs.specs.Growth.{kappa40}
-use Rattle.model_specs.specs.RecordRules.{IsWellFormed}
-use Rattle.model_specs.specs.ValuationRules.{obeys_rule_15, obeys_rule_16, obeys_rule_17, IsAdmissible}
-use Rattle.model_specs.specs.ValuationRules.{RuleBreak, first_given, broken_in_months, broken_at_last}
-use Rattle.ledger_laws.specs.MonthLaws.{ObeysMonthRules, ObeysAllMonths, AdmissibleProductsObey, exit_rates}
-use Rattle.ledger_laws.specs.MonthLaws.{HasSmallNumbers, MonthNumbersAreSmall}
+use Rattle.model_specs.specs.ValuationRules.{obeys_rule_15, obeys_rule_16, obeys_rule_17}
+use Rattle.model_specs.specs.ValuationRules.{first_given, broken_in_months, broken_at_last}
+use Rattle.ledger_laws.specs.MonthLaws.{AdmissibleProductsObey, exit_rates}
+use Rattle.ledger_laws.specs.MonthLaws.{MonthNumbersAreSmall}
 use Rattle.ledger_laws.proofs.Extremes.{le_from_test, both_pass, each_passes, nothing_found}
 use Rattle.ledger_laws.proofs.Extremes.{greatest_natural-has, greatest_whole_natural, greatest_whole_least}
 use Rattle.ledger_laws.proofs.Extremes.{least_whole-has, whole_sum_natural, length-list_of, place_of_list, All-list_of}

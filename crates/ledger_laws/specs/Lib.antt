@@ -1,1 +1,2 @@
 pub mod MonthLaws
+pub mod PaymentLaws

@@ -2,5 +2,7 @@
 #![tactic(auto)]
 
 mod month_laws;
+mod payment_laws;
 
 pub use month_laws::{admissible_products_obey, month_numbers_are_small};
+pub use payment_laws::{loads_are_small, pay_is_small};
