@@ -1,7 +1,9 @@
 pub mod Extremes
 pub mod Found
+pub mod GrowthFacts
 pub mod HeldSteps
 pub mod Loads
+pub mod LongestLedgers
 pub mod MonthFacts
 pub mod PaymentFacts
 pub mod Rounding

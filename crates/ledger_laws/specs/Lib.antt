@@ -1,2 +1,3 @@
+pub mod GrowthLaws
 pub mod MonthLaws
 pub mod PaymentLaws
