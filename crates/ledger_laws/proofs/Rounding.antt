@@ -40,15 +40,19 @@ cells_mono w v kappa higher add more (suc cells) order grows adds =
     grow_mono (grow_cells kappa add w cells) (grow_cells higher more v cells) kappa higher add more
     (cells_mono w v kappa higher add more cells order grows adds) grows adds
 
--- it never falls
-pub never_falls : (kappa add w fewer more : ℕ) → fewer ≤ more
-    → grow_cells kappa add w fewer ≤ grow_cells kappa add w more
-never_falls kappa add w fewer zero order = let none : fewer ≡ 0 = omega arith in rw none (omega arith)
-never_falls kappa add w fewer (suc more) order =
+-- what never falls by one step never falls
+pub rises_far : (f : ℕ → ℕ) → ((n : ℕ) → f n ≤ f (suc n)) → (fewer more : ℕ) → fewer ≤ more → f fewer ≤ f more
+rises_far f rises fewer zero order = let none : fewer ≡ 0 = omega arith in rw none (omega arith)
+rises_far f rises fewer (suc more) order =
     elim (cases_lt fewer (suc more)) [
-      | inl less ↦ omega (arith, never_falls kappa add w fewer more (omega arith))
+      | inl less ↦ omega (arith, rises_far f rises fewer more (omega arith), rises more)
       | inr most ↦ let same : fewer ≡ suc more = omega arith in rw same (omega arith)
     ]
+
+-- a ledger never falls
+pub never_falls : (kappa add w fewer more : ℕ) → fewer ≤ more
+    → grow_cells kappa add w fewer ≤ grow_cells kappa add w more
+never_falls kappa add w fewer more order = rises_far (grow_cells kappa add w) (λ n. omega arith) fewer more order
 
 -- cells after cells
 pub cells_after : (kappa add w first then : ℕ)
@@ -67,3 +71,6 @@ le_then_is a b c h e = omega arith
 
 pub le_through : (a b c : ℕ) → a ≤ b → b ≤ c → a ≤ c
 le_through a b c h k = omega arith
+
+pub le_when_same : (a b : ℕ) → a ≡ b → a ≤ b
+le_when_same a b e = omega arith

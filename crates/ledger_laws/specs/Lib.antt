@@ -1,3 +1,4 @@
+pub mod BoundLaws
 pub mod GrowthLaws
 pub mod MonthLaws
 pub mod PaymentLaws
