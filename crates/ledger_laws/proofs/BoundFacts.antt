@@ -87,7 +87,7 @@ module _ (product : Product) (plan : Plan) where
       (never_falls (kappa40 product month) (pay product plan month) (bound_with_lumps product plan (suc month))
       cells 32 within)
 
-  inside_within : (month cells : ℕ) → month < product.months → cells ≤ 32
+  pub inside_within : (month cells : ℕ) → month < product.months → cells ≤ 32
       → bound_inside product plan month cells ≤ bound1024 product plan
   inside_within month cells below within =
       le_through (bound_inside product plan month cells) (bound_at product plan month) (bound1024 product plan)

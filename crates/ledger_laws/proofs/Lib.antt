@@ -8,3 +8,5 @@ pub mod LongestLedgers
 pub mod MonthFacts
 pub mod PaymentFacts
 pub mod Rounding
+pub mod SecondFacts
+pub mod SecondSteps

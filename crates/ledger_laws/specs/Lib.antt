@@ -2,3 +2,4 @@ pub mod BoundLaws
 pub mod GrowthLaws
 pub mod MonthLaws
 pub mod PaymentLaws
+pub mod SecondLaws
