@@ -38,12 +38,20 @@ share_most w times t kappa most =
     div_ceil_most (w * kappa) (2 ^ 40) (times * div_ceil (t * kappa) (2 ^ 40)) (omega arith)
     (omega (arith, whole, same, scaled, right))
 
-scaled_grow : (w add t kappa : ℕ) → w ≤ (add + 1) * t → grow w kappa add ≤ (add + 1) * grow t kappa 1
-scaled_grow w add t kappa most =
-    let share = share_most w (add + 1) t kappa most in
-    let parts : (add + 1) * (t + div_ceil (t * kappa) (2 ^ 40) + 1)
-    ≡ (add + 1) * t + (add + 1) * div_ceil (t * kappa) (2 ^ 40) + (add + 1) = grind arith in
-    omega (arith, most, share, parts)
+pub scaled_grow : (w add times t kappa : ℕ) → w ≤ times * t → add ≤ times
+    → grow w kappa add ≤ times * grow t kappa 1
+scaled_grow w add times t kappa most adds =
+    let share = share_most w times t kappa most in
+    let parts : times * (t + div_ceil (t * kappa) (2 ^ 40) + 1)
+    ≡ times * t + times * div_ceil (t * kappa) (2 ^ 40) + times = grind arith in
+    omega (arith, most, share, parts, adds)
+
+pub scaled_cells : (w add times t kappa cells : ℕ) → w ≤ times * t → add ≤ times
+    → grow_cells kappa add w cells ≤ times * grow_cells kappa 1 t cells
+scaled_cells w add times t kappa zero most adds = most
+scaled_cells w add times t kappa (suc cells) most adds =
+    scaled_grow (grow_cells kappa add w cells) add times (grow_cells kappa 1 t cells) kappa
+    (scaled_cells w add times t kappa cells most adds) adds
 
 pub long_ledgers : LongLedgersStaySmall
 long_ledgers ledger add from_0 grows cell within =
@@ -56,8 +64,8 @@ long_ledgers ledger add from_0 grows cell within =
         omega (
           arith,
           grows cell (omega arith),
-          scaled_grow (ledger cell) add (grow_cells greatest_kappa40 1 0 cell)
-              greatest_kappa40 (step cell (omega arith)),
+          scaled_grow (ledger cell) add (add + 1) (grow_cells greatest_kappa40 1 0 cell)
+              greatest_kappa40 (step cell (omega arith)) (omega arith),
         )
 
     capped : (w times t last : ℕ) → w ≤ times * t → t ≤ last → last ≡ 45849679 → w ≤ 2 ^ 26 * times
@@ -67,7 +75,7 @@ long_ledgers ledger add from_0 grows cell within =
 
 -- the radii are at most the ledger of as many cells at the greatest growth
 module _ (product : Product) (well : IsWellFormed product) (rules : ObeysAllMonths product) where
-  kappa_most : (month : ℕ) → month < product.months → kappa40 product month ≤ greatest_kappa40
+  pub kappa_most : (month : ℕ) → month < product.months → kappa40 product month ≤ greatest_kappa40
   kappa_most month below = (month_numbers product month well (rules month below)).kappa_most
 
   month_on : (w month months : ℕ) → month < product.months → w ≤ grow_cells greatest_kappa40 1024 0 (32 * months)

@@ -7,6 +7,7 @@ pub mod Loads
 pub mod LongestLedgers
 pub mod MonthFacts
 pub mod PaymentFacts
+pub mod PlanBounds
 pub mod Rounding
 pub mod SecondFacts
 pub mod SecondSteps

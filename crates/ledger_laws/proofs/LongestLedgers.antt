@@ -1,6 +1,6 @@
 -- The ledgers of 38,400 cells at the greatest growth, computed by eighths.
-use Rattle.std.specs.Prelude.{◌≡◌, ℕ, ◌+◌, refl}
-use Rattle.std.proofs.Common.{ap, sym, ◌∙◌}
+use Rattle.std.specs.Prelude.{◌≡◌, ℕ, zero, suc, ◌+◌, refl}
+use Rattle.std.proofs.Common.{arith, ap, sym, ◌∙◌}
 use Rattle.model_specs.specs.Ledgers.{grow_cells}
 use Rattle.ledger_laws.specs.MonthLaws.{greatest_kappa40}
 use Rattle.ledger_laws.proofs.Rounding.{cells_after}
@@ -63,3 +63,49 @@ radius_seventh = further 1024 28800 3370751989 4800 33600 10188742832 radius_six
 
 pub radius_century : grow_cells greatest_kappa40 1024 0 38400 ≡ 30779247495
 radius_century = further 1024 33600 10188742832 4800 38400 30779247495 radius_seventh refl refl
+
+-- the ledger of whole months in which each date and each cell adds 1
+abbrev pub unit_months : ℕ → ℕ → ℕ
+unit_months start zero = start
+unit_months start (suc months) = grow_cells greatest_kappa40 1 (unit_months start months + 1) 32
+
+months_after : (start first then : ℕ) → unit_months (unit_months start first) then ≡ unit_months start (then + first)
+months_after start first zero = ap (unit_months start) (omega arith)
+months_after start first (suc then) =
+    ap (λ v. grow_cells greatest_kappa40 1 (v + 1) 32) (months_after start first then)
+    ∙ ap (unit_months start) (next then first)
+  where
+    next : (n m : ℕ) → suc (n + m) ≡ suc n + m
+    next n m = omega arith
+
+further_months : (first some more all later : ℕ) → unit_months 1 first ≡ some → more + first ≡ all
+    → unit_months some more ≡ later → unit_months 1 all ≡ later
+further_months first some more all later before sum on =
+    sym (ap (unit_months 1) sum)
+    ∙ sym (months_after 1 first more)
+    ∙ ap (λ w. unit_months w more) before
+    ∙ on
+
+first_months : unit_months 1 150 ≡ 13795
+first_months = refl
+
+second_months : unit_months 1 300 ≡ 55046
+second_months = further_months 150 13795 150 300 55046 first_months refl refl
+
+third_months : unit_months 1 450 ≡ 179618
+third_months = further_months 300 55046 150 450 179618 second_months refl refl
+
+fourth_months : unit_months 1 600 ≡ 555869
+fourth_months = further_months 450 179618 150 600 555869 third_months refl refl
+
+fifth_months : unit_months 1 750 ≡ 1692164
+fifth_months = further_months 600 555869 150 750 1692164 fourth_months refl refl
+
+sixth_months : unit_months 1 900 ≡ 5123835
+sixth_months = further_months 750 1692164 150 900 5123835 fifth_months refl refl
+
+seventh_months : unit_months 1 1050 ≡ 15487558
+seventh_months = further_months 900 5123835 150 1050 15487558 sixth_months refl refl
+
+pub century_months : unit_months 1 1200 ≡ 46786362
+century_months = further_months 1050 15487558 150 1200 46786362 seventh_months refl refl
