@@ -1,6 +1,6 @@
 -- How large the numbers of a month are.
 use Rattle.std.specs.Prelude.{◌≡◌, ℕ, zero, suc, ◌+◌, ◌*◌, ◌^◌, ◌<◌, ◌≤◌, ℤ, pos, negsuc, ◌*ℤ◌, ◌≤ℤ◌, neg_ℤ}
-use Rattle.std.specs.Prelude.{Bool, true, false, not, ◌&&◌, int_le, unsigned_abs, ◌==◌}
+use Rattle.std.specs.Prelude.{if◌then◌else◌, Bool, true, false, not, ◌&&◌, int_le, unsigned_abs, ◌==◌}
 use Rattle.std.specs.Prelude.{Option, Some, None, option_map, find, All, List, [], ◌∷◌, length, map, slice_index_or, refl}
 use Rattle.std.specs.Int.{div_ceil}
 use Rattle.std.specs.List.{list_all}
@@ -13,7 +13,8 @@ use Rattle.model_specs.specs.Whole.{greatest_natural, natural_part}
 use Rattle.model_specs.specs.Product.{Product, transition_at, no_transition}
 use Rattle.model_specs.specs.MonthNumbers.{curve_numerators, month_unit, greatest_rate, exits, rho, iota, nu}
 use Rattle.model_specs.specs.Growth.{kappa40}
-use Rattle.model_specs.specs.ValuationRules.{obeys_rule_15, obeys_rule_16, obeys_rule_17}
+use Rattle.model_specs.specs.ValuationRules.{obeys_rule_15, obeys_rule_16, obeys_rule_17, obeys_rule_18}
+use Rattle.model_specs.specs.ValuationRules.{RuleBreak, IsAdmissible}
 use Rattle.model_specs.specs.ValuationRules.{first_given, broken_in_months, broken_at_last}
 use Rattle.ledger_laws.specs.MonthLaws.{AdmissibleProductsObey, exit_rates}
 use Rattle.ledger_laws.specs.MonthLaws.{MonthNumbersAreSmall}
@@ -50,20 +51,39 @@ obeys_below product rule obeys none m below =
     (mapped_none (λ i. record { rule = rule; place = i }) (find (λ i. not (obeys i)) (places product.months)) none)
     m 0 (rw (length-list_of product.months (λ i. i)) below)))
 
+none_broken : (a b c d : Option RuleBreak) → first_given (a ∷ b ∷ c ∷ d ∷ []) ≡ None
+    → (a ≡ None) × (b ≡ None) × (c ≡ None) × (d ≡ None)
+none_broken a b c d h =
+    let first = given_none a (b ∷ c ∷ d ∷ []) h in
+    let second = given_none b (c ∷ d ∷ []) first.1 in
+    let third = given_none c (d ∷ []) second.1 in
+    (first.0, second.0, third.0, (given_none d [] third.1).0)
+
 pub admissible_obeys : AdmissibleProductsObey
 admissible_obeys product admissible month below =
-    let rule_15 = broken_in_months product 15 (obeys_rule_15 product) in
-    let rule_16 = broken_in_months product 16 (obeys_rule_16 product) in
-    let rule_17 = broken_in_months product 17 (obeys_rule_17 product) in
-    let rule_18 = broken_at_last product in
-    let first = given_none rule_15 (rule_16 ∷ rule_17 ∷ rule_18 ∷ []) admissible.valuation in
-    let second = given_none rule_16 (rule_17 ∷ rule_18 ∷ []) first.1 in
-    let third = given_none rule_17 (rule_18 ∷ []) second.1 in
+    let none = none_broken (broken_in_months product 15 (obeys_rule_15 product))
+    (broken_in_months product 16 (obeys_rule_16 product)) (broken_in_months product 17 (obeys_rule_17 product))
+    (broken_at_last product) admissible.valuation in
     record {
-      interest = obeys_below product 15 (obeys_rule_15 product) first.0 month below;
-      rates = obeys_below product 16 (obeys_rule_16 product) second.0 month below;
-      exits = obeys_below product 17 (obeys_rule_17 product) third.0 month below;
+      interest = obeys_below product 15 (obeys_rule_15 product) none.0 month below;
+      rates = obeys_below product 16 (obeys_rule_16 product) none.1 month below;
+      exits = obeys_below product 17 (obeys_rule_17 product) none.2 month below;
     }
+
+-- and rule 18, at which the last part looks
+pub admissible_obeys_18 : (product : Product) → IsAdmissible product → obeys_rule_18 product ≡ true
+admissible_obeys_18 product admissible =
+    unbroken (obeys_rule_18 product) (record { rule = 18; place = 0 })
+    (none_broken (broken_in_months product 15 (obeys_rule_15 product))
+    (broken_in_months product 16 (obeys_rule_16 product)) (broken_in_months product 17 (obeys_rule_17 product))
+    (broken_at_last product) admissible.valuation).3
+  where
+    some≢none : {A : Type 0} (x : A) → Some x ≡ None → ⊥
+    some≢none x h = cc
+
+    unbroken : (obeys : Bool) (broken : RuleBreak) → (if obeys then None else Some broken) ≡ None → obeys ≡ true
+    unbroken true broken h = refl
+    unbroken false broken h = absurd (some≢none broken h)
 
 -- the sizes of numbers from -1/50 to 1/4 of a unit
 size_most : (b : ℤ) (u : ℕ) → neg_ℤ (pos u) ≤ℤ (pos 50 *ℤ b) → (pos 4 *ℤ b) ≤ℤ pos u → unsigned_abs b * 4 ≤ u

@@ -1,18 +1,20 @@
 -- The bound of a plan whose payments are small.
-use Rattle.std.specs.Prelude.{◌≡◌, ℕ, zero, suc, ◌+◌, ◌-◌, ◌*◌, ◌^◌, ◌<◌, ◌≤◌}
+use Rattle.std.specs.Prelude.{◌≡◌, ℕ, zero, suc, ◌+◌, ◌-◌, ◌*◌, ◌^◌, ◌<◌, ◌≤◌, nat_le, true}
 use Rattle.std.proofs.Common.{arith}
+use Rattle.std.proofs.lemmas.Bool.Decides.{nat_tests}
 use Rattle.std.proofs.lemmas.Nat.{mul-le}
 use Rattle.frac_laws.proofs.LedgerLaws.{scale_of_bound-scale}
 use Rattle.model_specs.specs.Product.{Product}
 use Rattle.model_specs.specs.Payments.{Plan, payment_plan, pattern_plan}
 use Rattle.model_specs.specs.Growth.{kappa40, pay, greatest_sum}
-use Rattle.model_specs.specs.Ledgers.{grow_cells, greatest_lump, bound_before_term, bound1024}
+use Rattle.model_specs.specs.Ledgers.{grow_cells, greatest_lump, bound_before_term, bound1024, scale}
 use Rattle.model_specs.specs.RecordRules.{IsWellFormed}
 use Rattle.ledger_laws.specs.MonthLaws.{ObeysAllMonths, greatest_kappa40}
 use Rattle.ledger_laws.specs.PlanBoundLaws.{AddsAtMost, PlanBoundStaysSmall, PaymentBoundStaysSmall}
-use Rattle.ledger_laws.specs.PlanBoundLaws.{PatternBoundStaysSmall}
+use Rattle.ledger_laws.specs.PlanBoundLaws.{PatternBoundStaysSmall, AdmissibleScaleIsSmall}
 use Rattle.ledger_laws.proofs.GrowthFacts.{scaled_cells, kappa_most}
 use Rattle.ledger_laws.proofs.LongestLedgers.{unit_months, century_months}
+use Rattle.ledger_laws.proofs.MonthFacts.{admissible_obeys_18}
 use Rattle.ledger_laws.proofs.PaymentFacts.{payment_loads, pattern_loads, payments_pay, pattern_pays}
 use Rattle.ledger_laws.proofs.Rounding.{cells_mono, never_falls, rises_far, le_through}
 
@@ -109,12 +111,37 @@ pattern_adds product well rules = record {
     cell : (p : ℕ) → p ≤ 6 → p ≤ 1024
     cell p h = omega arith
 
+-- the scale is the least one
+scale_least : (product : Product) (plan : Plan) (g : ℕ) → bound1024 product plan ≤ 1024 * 2 ^ g
+    → scale product plan ≤ g
+scale_least product plan g enough = (scale_of_bound-scale (bound1024 product plan)).least g enough
+
 pub payment_bound : PaymentBoundStaysSmall
-payment_bound product well rules = below (bound1024 product (payment_plan product))
-    (bound_most product (payment_plan product) (9216 * 10 ^ 12) well rules (payments_add product well rules))
+payment_bound product well rules =
+    let plan = payment_plan product in
+    let small = bound_most product plan (9216 * 10 ^ 12) well rules (payments_add product well rules) in
+    record {
+      bound = below (bound1024 product plan) small;
+      scale = scale_least product plan 70 (scaled (bound1024 product plan) small);
+    }
   where
     below : (b : ℕ) → b ≤ 2 ^ 26 * (9216 * 10 ^ 12) → b < 2 ^ 80
     below b h = omega arith
+
+    scaled : (b : ℕ) → b ≤ 2 ^ 26 * (9216 * 10 ^ 12) → b ≤ 1024 * 2 ^ 70
+    scaled b h = omega arith
+
+pub admissible_scale : AdmissibleScaleIsSmall
+admissible_scale product admissible =
+    let plan = payment_plan product in
+    let most = within_from_test (bound1024 product plan) (2 ^ 66) (admissible_obeys_18 product admissible) in
+    (most, scale_least product plan 56 (scaled (bound1024 product plan) most))
+  where
+    within_from_test : (a b : ℕ) → nat_le a b ≡ true → a ≤ b
+    within_from_test a b h = grind (arith, nat_tests)
+
+    scaled : (b : ℕ) → b ≤ 2 ^ 66 → b ≤ 1024 * 2 ^ 56
+    scaled b h = omega arith
 
 pub pattern_bound : PatternBoundStaysSmall
 pattern_bound product well rules =
@@ -123,7 +150,7 @@ pattern_bound product well rules =
     record {
       most = within (bound1024 product plan) small;
       below = below (bound1024 product plan) small;
-      scale = (scale_of_bound-scale (bound1024 product plan)).least 26 (scaled (bound1024 product plan) small);
+      scale = scale_least product plan 26 (scaled (bound1024 product plan) small);
     }
   where
     within : (b : ℕ) → b ≤ 2 ^ 26 * 1024 → b ≤ 2 ^ 36
