@@ -10,7 +10,7 @@ use Rattle.product_file.specs.PaymentRules.{rule_10, rule_11}
 use Rattle.product_file.specs.LumpRule.{rule_12}
 use Rattle.product_file.specs.PatternRules.{rule_13, rule_14}
 use Rattle.product_file.specs.Reads.{broken_at}
-use Rattle.file_checks.specs.declared.verdict.RuleBreak.{RuleBreak}
+use Rattle.product_model.specs.declared.breaks.RuleBreak.{RuleBreak}
 
 -- what a `RuleBreak` stands for
 abbrev pub break_of : RuleBreak → model.RuleBreak

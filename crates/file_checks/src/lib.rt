@@ -29,7 +29,7 @@ pub use pieces::{curve, curve_break, start_of};
 pub use steps::{payment_break, sojourns, steps_of, sum_of};
 pub use table::{is_absent, item, items_of, text_in, text_of, whole_of};
 pub use transition::{state_at, state_index, transition_break, transitions};
-pub use verdict::{RuleBreak, first_break};
+pub use verdict::first_break;
 pub use within::{
     coefficient_at, is_absent_within, items_within, natural_within, text_within, whole_within,
 };

@@ -15,15 +15,9 @@ use crate::pattern::{pattern_break, payer_break};
 use crate::pieces::curve_break;
 use crate::steps::payment_break;
 use crate::transition::transition_break;
+use product_model::RuleBreak;
 use std::alloc::{AllocError, Global};
 use toml::Table;
-
-/// A rule that is broken, and the least place at which it is.
-#[derive(Clone, Copy, Debug, PartialEq, Eq)]
-pub struct RuleBreak {
-    pub rule: u8,
-    pub place: u32,
-}
 
 // The first broken of rules 1 to 7.
 fn head_break(tree: &Table) -> Option<RuleBreak>
