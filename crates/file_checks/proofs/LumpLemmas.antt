@@ -211,6 +211,9 @@ pub few_lumps : (tree : Members) (k : ℕ) → first_failed (rule_3 tree) ≡ No
     → k ≤ length (lump_items tree) → ((i : ℕ) → i < k → is_good_lump tree i ≡ true) → k ≤ 14412
 few_lumps tree k names term inside good =
     at_most (λ i. slot_of tree (item_at (lump_items tree) i)) 14412 k
-    (λ i below. omega (arith, months-le tree term,
-    slot_of-within tree (item_at (lump_items tree) i) names (fair_from_good tree i (good i below))))
+    (λ i below. omega (
+      arith,
+      months-le tree term,
+      slot_of-within tree (item_at (lump_items tree) i) names (fair_from_good tree i (good i below)),
+    ))
     (λ i j first second. other_slot tree i j names first (omega arith) (λ h under. good h (omega arith)))

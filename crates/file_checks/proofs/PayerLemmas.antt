@@ -45,8 +45,11 @@ pub few_payers : (tree : Members) (k : ℕ) → first_failed (rule_3 tree) ≡ N
     → ((i : ℕ) → i < k → is_good_payer tree i ≡ true) → k ≤ 12
 few_payers tree k names inside good =
     at_most (λ i. payer_index tree (item_at (payer_items tree) i)) 12 k
-    (λ i below. omega (arith, at_most_twelve tree names,
-    named-below tree _ (good_parts tree i (good i below)).named))
+    (λ i below. omega (
+      arith,
+      at_most_twelve tree names,
+      named-below tree _ (good_parts tree i (good i below)).named,
+    ))
     (λ i j first second. other_index tree i j first (omega arith) (good_parts tree j (good j second)))
 
 -- the checks of payers are those of a list that must not be empty

@@ -61,8 +61,11 @@ few_good : (tree : Members) (k : ℕ) → first_failed (rule_3 tree) ≡ None �
     → ((i : ℕ) → i < k → is_good_sojourn tree i ≡ true) → k ≤ 12
 few_good tree k names inside good =
     at_most (index_at tree) 12 k
-    (λ i below. omega (arith, at_most_twelve tree names,
-    state_index-below tree (codes "state") (item_at (sojourn_items tree) i) (good_parts tree i (good i below)).named))
+    (λ i below. omega (
+      arith,
+      at_most_twelve tree names,
+      state_index-below tree (codes "state") (item_at (sojourn_items tree) i) (good_parts tree i (good i below)).named,
+    ))
     (λ i j first second. other_index tree i j first (omega arith) (good_parts tree j (good j second)))
 
 -- a sojourn that obeys rule 10 is good

@@ -10,7 +10,7 @@ use Rattle.product_file.specs.PaymentRules.{rule_10, rule_11}
 use Rattle.product_file.specs.LumpRule.{rule_12}
 use Rattle.product_file.specs.PatternRules.{rule_13, rule_14}
 use Rattle.product_file.specs.Reads.{broken_at}
-use Rattle.file_checks.specs.declared.verdict.RuleBreak.{RuleBreak}
+use Rattle.product_model.specs.declared.breaks.RuleBreak.{RuleBreak}
 
 -- what a `RuleBreak` stands for
 abbrev pub break_of : RuleBreak → model.RuleBreak
@@ -32,8 +32,27 @@ list_breaks tree =
     ∷ broken_at 12 (first_failed (rule_12 tree)) ∷ broken_at 13 (first_failed (rule_13 tree))
     ∷ broken_at 14 (first_failed (rule_14 tree)) ∷ []
 
--- rules 3, 4 and 7 hold, on which the later ones stand
+-- rules 1 to 7 hold
 pub record ObeysHead (tree : Members) : Type 0 where
+  pub keys : first_failed (rule_1 tree) ≡ None
+  pub format : first_failed (rule_2 tree) ≡ None
   pub names : first_failed (rule_3 tree) ≡ None
   pub term : first_failed (rule_4 tree) ≡ None
+  pub denominator : first_failed (rule_5 tree) ≡ None
+  pub start : first_failed (rule_6 tree) ≡ None
   pub transitions : first_failed (rule_7 tree) ≡ None
+
+-- rules 8 to 14 hold
+pub record ObeysLists (tree : Members) : Type 0 where
+  pub curves : first_failed_of_lists (rule_8 tree) ≡ None
+  pub sizes : first_failed_of_lists (rule_9 tree) ≡ None
+  pub payments : first_failed_of_lists (rule_10 tree) ≡ None
+  pub amounts : first_failed_of_lists (rule_11 tree) ≡ None
+  pub lumps : first_failed (rule_12 tree) ≡ None
+  pub payers : first_failed (rule_13 tree) ≡ None
+  pub pattern : first_failed (rule_14 tree) ≡ None
+
+-- rules 1 to 14 hold
+pub record ObeysRules (tree : Members) : Type 0 where
+  pub head : ObeysHead tree
+  pub lists : ObeysLists tree

@@ -10,7 +10,9 @@ ghost use Rattle.product_file.specs.HeadRules.{rule_1, rule_2, rule_4, rule_5, i
 ghost use Rattle.product_file.specs.HeadRules.{may_have_array, may_have_table, top_keys};
 ghost use Rattle.product_file.specs.CurveRules.{months_of_term};
 
-use crate::table::{has_array, has_no_key_but, has_table, has_text, has_whole, is_absent, whole_of};
+use crate::table::{
+    has_array, has_no_key_but, has_table, has_text, has_whole, is_absent, whole_of,
+};
 use toml::Table;
 
 // The keys of the top table.

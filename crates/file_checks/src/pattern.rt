@@ -11,8 +11,10 @@ ghost use Rattle.product_file.specs.PatternRules.{payer_index, is_good_payer, pa
 
 use crate::head::{first_false, is_from_to};
 use crate::names::state_of;
-use crate::table::{has_array, has_no_key_but, has_whole, is_absent, item, items_before, items_of, table_at};
-use crate::table::{text_in, whole_of};
+use crate::table::{
+    has_array, has_no_key_but, has_whole, is_absent, item, items_before, items_of, table_at,
+    text_in, whole_of,
+};
 use toml::{Table, Value};
 
 // The keys of the premium table.

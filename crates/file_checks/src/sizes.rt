@@ -52,7 +52,9 @@ fn in_years(c: &[i64; 4]) -> Poly
 fn are_small(numerators: &[i128; 6]) -> bool
     ensures { result ≡ are_small numerators.now }
 {
-    numerators.iter().all(|b| b.unsigned_abs() <= LARGEST_AMOUNT)
+    numerators
+        .iter()
+        .all(|b| b.unsigned_abs() <= LARGEST_AMOUNT)
 }
 
 // The Bernstein numerators of a step in a month.

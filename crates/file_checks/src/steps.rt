@@ -16,7 +16,9 @@ ghost use Rattle.file_checks.specs.Lists.{is_good_step};
 
 use crate::head::is_format_1;
 use crate::pieces::{has_piece_keys, is_in_order, place};
-use crate::table::{has_array, has_no_key_but, has_text, has_whole, item, items_before, items_of, whole_of};
+use crate::table::{
+    has_array, has_no_key_but, has_text, has_whole, item, items_before, items_of, whole_of,
+};
 use crate::transition::{state_at, state_index, transitions};
 use crate::within::{has_wholes, is_absent_within, items_within};
 use toml::{Table, Value};
@@ -123,7 +125,9 @@ pub fn sojourns(tree: &Table) -> &[Value]
 fn has_sojourn(tree: &Table, values: &[Value], index: usize) -> bool
     ensures { result ≡ list_any (λ e. state_index (table_view tree.now) (codes "state") e == index) (map view values.now) }
 {
-    values.iter().any(|value| state_index(tree, "state", value) == index)
+    values
+        .iter()
+        .any(|value| state_index(tree, "state", value) == index)
 }
 
 // Whether the sojourn at a place is one, names a state, and no earlier one names it.
@@ -133,7 +137,11 @@ fn is_good_sojourn(tree: &Table, s: usize) -> bool
 {
     let values = sojourns(tree);
     let value = item(values, s);
-    let is_new = !has_sojourn(tree, items_before(values, s), state_index(tree, "state", value));
+    let is_new = !has_sojourn(
+        tree,
+        items_before(values, s),
+        state_index(tree, "state", value),
+    );
     is_sojourn(value) & state_at(tree, "state", value).is_some() & is_new
 }
 

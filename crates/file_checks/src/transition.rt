@@ -82,7 +82,9 @@ fn is_same_pair(x: (usize, usize), y: (usize, usize)) -> bool
 fn has_pair(tree: &Table, values: &[Value], pair: (usize, usize)) -> bool
     ensures { result ≡ list_any (is_same_pair pair) (map (pair_of (table_view tree.now)) (map view values.now)) }
 {
-    values.iter().any(|value| is_same_pair(pair, pair_of(tree, value)))
+    values
+        .iter()
+        .any(|value| is_same_pair(pair, pair_of(tree, value)))
 }
 
 // Whether the transition at a place is one, names two different states, and no earlier one has the same pair.

@@ -4,7 +4,8 @@ ghost use Rattle.std.specs.Prelude.{◌≡◌, IfOk, IfNone, option_map};
 ghost use Rattle.toml.specs.View.{table_view};
 ghost use Rattle.model_specs.specs.ValuationRules.{first_given};
 ghost use Rattle.product_file.specs.Reads.{broken_in_tree};
-ghost use Rattle.file_checks.specs.Broken.{break_of, head_breaks, list_breaks, ObeysHead};
+ghost use Rattle.file_checks.specs.Broken.{break_of, head_breaks, list_breaks};
+ghost use Rattle.file_checks.specs.Broken.{ObeysHead, ObeysLists, ObeysRules};
 
 use crate::bounds::{amount_break, size_break};
 use crate::head::{denominator_break, format_break, key_break, term_break};
@@ -14,15 +15,9 @@ use crate::pattern::{pattern_break, payer_break};
 use crate::pieces::curve_break;
 use crate::steps::payment_break;
 use crate::transition::transition_break;
+use product_model::RuleBreak;
 use std::alloc::{AllocError, Global};
 use toml::Table;
-
-/// A rule that is broken, and the least place at which it is.
-#[derive(Clone, Copy, Debug, PartialEq, Eq)]
-pub struct RuleBreak {
-    pub rule: u8,
-    pub place: u32,
-}
 
 // The first broken of rules 1 to 7.
 fn head_break(tree: &Table) -> Option<RuleBreak>
@@ -56,7 +51,8 @@ fn head_break(tree: &Table) -> Option<RuleBreak>
 // The first broken of rules 8 to 14.
 fn list_break(alloc: Global, tree: &Table) -> Result<Option<RuleBreak>, AllocError>
     requires { ObeysHead (table_view tree.now) }
-    ensures { IfOk result (λ b. option_map break_of b ≡ first_given (list_breaks (table_view tree.now))) }
+    ensures first { IfOk result (λ b. option_map break_of b ≡ first_given (list_breaks (table_view tree.now))) }
+    ensures none { IfOk result (λ b. IfNone b (ObeysLists (table_view tree.now))) }
 {
     if let Some(place) = curve_break(tree) {
         return Ok(Some(RuleBreak { rule: 8, place }));
@@ -84,7 +80,8 @@ fn list_break(alloc: Global, tree: &Table) -> Result<Option<RuleBreak>, AllocErr
 
 /// The first of rules 1 to 14 that the tree breaks, with its least place. Takes memory for rule 12.
 pub fn first_break(alloc: Global, tree: &Table) -> Result<Option<RuleBreak>, AllocError>
-    ensures { IfOk result (λ b. option_map break_of b ≡ broken_in_tree (table_view tree.now)) }
+    ensures first { IfOk result (λ b. option_map break_of b ≡ broken_in_tree (table_view tree.now)) }
+    ensures none { IfOk result (λ b. IfNone b (ObeysRules (table_view tree.now))) }
 {
     match head_break(tree) {
         Some(broken) => Ok(Some(broken)),

@@ -15,8 +15,11 @@ pub overflow_cast-result : goal.overflow_cast-result
 overflow_cast-result c =
     let tree = table_view c.args.tree.now in
     let items = map view c.args.pieces.now in
-    omega (arith, few_ordered tree items c.loop-i.i c.requires.term (pieces_in_order tree items c.requires.pieces)
-    (omega (arith, length-map c.args.pieces.now view)))
+    omega (
+      arith,
+      few_ordered tree items c.loop-i.i c.requires.term (pieces_in_order tree items c.requires.pieces)
+          (omega (arith, length-map c.args.pieces.now view)),
+    )
 
 pub returns-then-not-is_bounded_piece-clause-small : goal.returns-then-not-is_bounded_piece-clause-small
 returns-then-not-is_bounded_piece-clause-small c =

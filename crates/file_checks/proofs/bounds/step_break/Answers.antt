@@ -9,8 +9,11 @@ use Rattle.file_checks.proofs.bounds.step_break.Goals as goal
 
 pub overflow_cast-result : goal.overflow_cast-result
 overflow_cast-result c =
-    omega (arith, few_ordered (table_view c.args.tree.now) (map view c.args.steps.now) c.loop-i.i c.requires.term
-    c.requires.in_order (omega (arith, length-map c.args.steps.now view)))
+    omega (
+      arith,
+      few_ordered (table_view c.args.tree.now) (map view c.args.steps.now) c.loop-i.i c.requires.term
+          c.requires.in_order (omega (arith, length-map c.args.steps.now view)),
+    )
 
 pub returns-then-not-is_bounded_step-clause-small : goal.returns-then-not-is_bounded_step-clause-small
 returns-then-not-is_bounded_step-clause-small c =

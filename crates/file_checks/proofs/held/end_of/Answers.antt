@@ -10,5 +10,9 @@ pub returns-then-i-values-clause-small : goal.returns-then-i-values-clause-small
 returns-then-i-values-clause-small c =
     let items = map view c.args.values.now in
     let start = c.natural_within.ensures ∙ ap (λ d. natural_part (start_of d)) c.item.ensures in
-    omega (arith, start, start-small (table_view c.args.tree.now) items (c.args.i + 1) c.requires.term
-    (c.requires.in_order (c.args.i + 1) (omega (arith, length-map c.args.values.now view))))
+    omega (
+      arith,
+      start,
+      start-small (table_view c.args.tree.now) items (c.args.i + 1) c.requires.term
+          (c.requires.in_order (c.args.i + 1) (omega (arith, length-map c.args.values.now view))),
+    )

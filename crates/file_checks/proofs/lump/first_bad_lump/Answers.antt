@@ -9,13 +9,19 @@ use Rattle.file_checks.proofs.lump.first_bad_lump.Goals as goal
 
 pub overflow_cast-result : goal.overflow_cast-result
 overflow_cast-result c =
-    omega (arith, few_lumps (table_view c.args.tree.now) c.loop-k.k c.requires.names c.requires.term
-    (omega (arith, c.lumps-lumps.ensures.count)) c.loop-k.invariant.good)
+    omega (
+      arith,
+      few_lumps (table_view c.args.tree.now) c.loop-k.k c.requires.names c.requires.term
+          (omega (arith, c.lumps-lumps.ensures.count)) c.loop-k.invariant.good,
+    )
 
 pub overflow_cast-result-then-seen-slot : goal.overflow_cast-result-then-seen-slot
 overflow_cast-result-then-seen-slot c =
-    omega (arith, few_lumps (table_view c.args.tree.now) c.loop-k.k c.requires.names c.requires.term
-    (omega (arith, c.lumps-lumps.ensures.count)) c.loop-k.invariant.good)
+    omega (
+      arith,
+      few_lumps (table_view c.args.tree.now) c.loop-k.k c.requires.names c.requires.term
+          (omega (arith, c.lumps-lumps.ensures.count)) c.loop-k.invariant.good,
+    )
 
 pub returns-then-not-is_fair_lump : goal.returns-then-not-is_fair_lump
 returns-then-not-is_fair_lump c =

@@ -8,8 +8,11 @@ use Rattle.file_checks.proofs.pattern.first_bad_payer.Goals as goal
 
 pub overflow_cast-result : goal.overflow_cast-result
 overflow_cast-result c =
-    omega (arith, few_payers (table_view c.args.tree.now) c.loop-i.i c.requires
-    (omega (arith, c.payers-count.ensures.count)) c.loop-i.invariant)
+    omega (
+      arith,
+      few_payers (table_view c.args.tree.now) c.loop-i.i c.requires
+          (omega (arith, c.payers-count.ensures.count)) c.loop-i.invariant,
+    )
 
 pub returns-then-not-is_good_payer-clause-value : goal.returns-then-not-is_good_payer-clause-value
 returns-then-not-is_good_payer-clause-value c =
@@ -20,8 +23,11 @@ returns-then-not-is_good_payer-clause-value c =
 
 pub returns-then-not-is_good_payer-clause-small : goal.returns-then-not-is_good_payer-clause-small
 returns-then-not-is_good_payer-clause-small c =
-    omega (arith, few_payers (table_view c.args.tree.now) c.loop-i.i c.requires
-    (omega (arith, c.payers-count.ensures.count)) c.loop-i.invariant)
+    omega (
+      arith,
+      few_payers (table_view c.args.tree.now) c.loop-i.i c.requires
+          (omega (arith, c.payers-count.ensures.count)) c.loop-i.invariant,
+    )
 
 pub returns-clause-value : goal.returns-clause-value
 returns-clause-value c =

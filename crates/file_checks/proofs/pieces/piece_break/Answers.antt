@@ -33,6 +33,9 @@ pub returns-clause-value : goal.returns-clause-value
 returns-clause-value c =
     first_of_some-none (length (map view c.args.pieces.now))
     (is_good_piece (table_view c.args.tree.now) (map view c.args.pieces.now))
-    (omega (arith, length-map c.args.pieces.now view,
-    some_from_test (length c.args.pieces.now) (sym c.is_empty.ensures ∙ c.if-is_empty.false)))
+    (omega (
+      arith,
+      length-map c.args.pieces.now view,
+      some_from_test (length c.args.pieces.now) (sym c.is_empty.ensures ∙ c.if-is_empty.false),
+    ))
     (λ k below. c.loop-i.invariant k (omega (arith, length-map c.args.pieces.now view)))

@@ -33,6 +33,9 @@ pub returns-clause-value : goal.returns-clause-value
 returns-clause-value c =
     first_of_some-none (length (map view c.args.steps.now))
     (is_good_step (table_view c.args.tree.now) (map view c.args.steps.now))
-    (omega (arith, length-map c.args.steps.now view,
-    some_from_test (length c.args.steps.now) (sym c.is_empty.ensures ∙ c.if-is_empty.false)))
+    (omega (
+      arith,
+      length-map c.args.steps.now view,
+      some_from_test (length c.args.steps.now) (sym c.is_empty.ensures ∙ c.if-is_empty.false),
+    ))
     (λ k below. c.loop-i.invariant k (omega (arith, length-map c.args.steps.now view)))
