@@ -1,4 +1,3 @@
-pub mod Breaks
 pub mod Grown
 pub mod ReadAnswers
 pub mod Starts

@@ -1,19 +1,18 @@
 -- From what a tree reads as to the answers about the bytes that it was read from.
-use Rattle.std.proofs.Common.{◌≡◌, List, ℕ, ◌⊎◌, inl, inr, sym, ◌∙◌, refl, ap}
-use Rattle.std.specs.Prelude.{Result, Ok, Err, Option, Some, None, IfOk, IsErrOf, option_map, is_some}
+use Rattle.std.proofs.Common.{◌≡◌, List, ℕ, inl, inr, sym, ◌∙◌, refl, ap}
+use Rattle.std.specs.Prelude.{Result, Ok, Err, Option, Some, None, IfOk, IsErrOf, option_map}
 use Rattle.std.proofs.lemmas.Option.{none-some}
 use Rattle.toml.specs.Data.{Members}
 use Rattle.model_specs.specs.Product.{Product}
-use Rattle.model_specs.specs.RecordRules.{IsWellFormed}
 use Rattle.model_specs.specs.ValuationRules as model
 use Rattle.product_model.specs.declared.breaks.RuleBreak.{RuleBreak}
 use Rattle.product_file.specs.Reads.{reads, product_of, product_unless, broken_in_tree}
 use Rattle.product_file.specs.Verdict.{ReadsAs, ReadsProduct, BreaksInTree, IsNotToml}
-use Rattle.product_file.proofs.Products.{product_is_well_formed}
 use Rattle.product_reader.specs.declared.read.ReadError.{ReadError}
 use Rattle.product_reader.specs.declared.read.ReadError.TheVariants.{NotToml, Rule, Memory}
 use Rattle.product_reader.specs.Readings.{IsReadingOf}
-use Rattle.product_reader.specs.Refusals.{ComesWhere, break_of}
+use Rattle.product_reader.specs.Refusals.{ComesWhere}
+use Rattle.file_checks.specs.Broken.{break_of}
 
 -- no rule is broken: the product is read
 pub reads_product : (tree : Members) (product : Product) → broken_in_tree tree ≡ None → product ≡ product_of tree

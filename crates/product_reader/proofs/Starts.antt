@@ -1,14 +1,13 @@
 -- The months of pieces, steps and lumps of a well-formed product.
 use Rattle.std.proofs.Common.{◌≡◌, ℕ, ◌<◌, ◌≤◌, List, [], length, map, get_or, ap, sym, subst, ◌∙◌, arith}
 use Rattle.std.proofs.Common.{refl, pos}
-use Rattle.std.specs.Prelude.{All, Bool, true, false, if◌then◌else◌, codes, slice_index}
+use Rattle.std.specs.Prelude.{All, false, slice_index}
 use Rattle.std.proofs.lemmas.List.{get_or-map, length-map}
 use Rattle.toml.specs.Data.{Data, Members, boolean}
 use Rattle.model_specs.specs.Whole.{natural_part}
-use Rattle.model_specs.specs.Product.{Step, Transition, Sojourn, Lump, no_transition}
+use Rattle.model_specs.specs.Product.{no_transition}
 use Rattle.model_specs.specs.RecordRules.{StartsRise, IsCurve, IsBoundedCurve, IsPayment, IsWellFormed}
-use Rattle.product_file.specs.Members.{items_of, members_of, item_at, whole_of}
-use Rattle.product_file.specs.HeadRules.{is_format_1}
+use Rattle.product_file.specs.Members.{item_at}
 use Rattle.product_file.specs.CurveRules.{piece_of, start_of, months_of_term}
 use Rattle.product_file.specs.TransitionRule.{transition_items}
 use Rattle.product_file.specs.PaymentRules.{step_of, sojourn_items}

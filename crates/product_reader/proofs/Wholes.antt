@@ -1,10 +1,10 @@
 -- The parts that a file gives are those of its product, and fit together.
-use Rattle.std.proofs.Common.{◌≡◌, ◌≢◌, ℕ, zero, suc, ◌<◌, ◌≤◌, List, [], ◌∷◌, length, map, get_or, ap, sym, subst, ◌∙◌, arith}
+use Rattle.std.proofs.Common.{◌≡◌, ◌≢◌, ℕ, ◌<◌, ◌≤◌, List, [], ◌∷◌, length, map, ap, sym, ◌∙◌}
 use Rattle.std.proofs.Common.{refl}
-use Rattle.std.specs.Prelude.{All, slice_index_or}
+use Rattle.std.specs.Prelude.{slice_index_or}
 use Rattle.std.proofs.lemmas.List.{length-map}
 use Rattle.std.proofs.lemmas.List.Elements.{All-map}
-use Rattle.toml.specs.Data.{Data, Members}
+use Rattle.toml.specs.Data.{Members}
 use Rattle.model_specs.specs.Whole.{list_of}
 use Rattle.model_specs.specs.Product.{Product, Transition, Step, Sojourn, Lump, PremiumPattern}
 use Rattle.model_specs.specs.RecordRules.{IsWellFormed, IsPayment, IsBoundedPayment}

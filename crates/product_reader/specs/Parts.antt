@@ -1,5 +1,5 @@
 -- Parts of a product, by the data of a file that they are made of.
-use Rattle.std.specs.Prelude.{ℕ, codes, List, map}
+use Rattle.std.specs.Prelude.{List}
 use Rattle.toml.specs.Data.{Data, Members}
 use Rattle.model_specs.specs.Product.{Step}
 use Rattle.curve_pieces.specs.PiecewiseCurves.{PiecewiseCurve}

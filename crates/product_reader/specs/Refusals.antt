@@ -1,13 +1,7 @@
 -- When a read is refused.
 use Rattle.std.specs.Prelude.{◌⊎◌, Result, IsErrOf}
-use Rattle.model_specs.specs.ValuationRules as model
-use Rattle.product_model.specs.declared.breaks.RuleBreak.{RuleBreak}
 use Rattle.product_reader.specs.declared.read.ReadError.{ReadError}
 use Rattle.product_reader.specs.declared.read.ReadError.TheVariants.{Memory}
-
--- a broken rule as the model has it
-abbrev pub break_of : RuleBreak → model.RuleBreak
-break_of b = record { rule = b.rule; place = b.place }
 
 -- the refusal comes exactly where its cause is, unless memory runs out
 pub record ComesWhere {T : Type 0} (result : Result T ReadError) (refusal : ReadError) (Cause : Type 0)

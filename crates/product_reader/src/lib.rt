@@ -1,7 +1,6 @@
 //! Reads product files: from bytes to a product, or to the first rule that they break.
 #![tactic(auto)]
 
-mod broken;
 mod curves;
 mod dates;
 mod head;

@@ -2,13 +2,14 @@
 
 ghost use Rattle.std.specs.Prelude.{◌≡◌, IfOk};
 ghost use Rattle.toml.specs.View.{table_view};
-ghost use Rattle.product_file.specs.Reads.{reads, product_unless, product_of, broken_in_tree};
+ghost use Rattle.file_checks.specs.Broken.{break_of};
+ghost use Rattle.product_file.specs.Reads.{reads};
 ghost use Rattle.product_file.specs.Verdict.{ReadsProduct, BreaksInTree, IsNotToml};
 ghost use Rattle.product_reader.specs.Readings.{IsReadingOf};
-ghost use Rattle.product_reader.specs.Refusals.{ComesWhere, break_of};
+ghost use Rattle.product_reader.specs.Refusals.{ComesWhere};
 
-use crate::broken::first_break;
 use crate::product::product_from;
+use file_checks::first_break;
 use product_model::{Product, RuleBreak};
 use std::alloc::{AllocError, Global};
 use thiserror::Error;

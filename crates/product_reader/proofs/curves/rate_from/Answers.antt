@@ -1,7 +1,6 @@
-use Rattle.std.proofs.Common.{◌≡◌, ap, ◌∙◌, codes, map}
-use Rattle.toml.specs.View.{view, table_view}
+use Rattle.std.proofs.Common.{ap, ◌∙◌, codes}
+use Rattle.toml.specs.View.{table_view}
 use Rattle.product_file.specs.Members.{items_of, members_of, item_at}
-use Rattle.product_file.specs.TransitionRule.{transition_items}
 use Rattle.product_reader.proofs.Starts.{rate_is_curve, rate_is_bounded}
 use Rattle.product_reader.proofs.curves.rate_from.Goals as goal
 

@@ -7,16 +7,16 @@ use Rattle.product_reader.proofs.read.read_tree.Goals as goal
 pub product_from-requires : goal.product_from-requires
 product_from-requires c =
     product_is_well_formed (table_view c.args.tree.now)
-        (unbroken_of (broken_in_tree (table_view c.args.tree.now)) c.in-Ok-None.field-0 c.in-Ok-None.ensures c.in-Ok-None.field-0-is)
+    (unbroken_of (broken_in_tree (table_view c.args.tree.now)) c.in-Ok-None.field-0 c.in-Ok-None.ensures.first c.in-Ok-None.field-0-is)
 
 pub returns-in-Ok-Some : goal.returns-in-Ok-Some
 returns-in-Ok-Some c =
     reads_break (table_view c.args.tree.now) _
-        (broken_of (broken_in_tree (table_view c.args.tree.now)) c.in-Ok-Some.field-0 c.in-Ok-Some.found c.in-Ok-Some.ensures
-            c.in-Ok-Some.field-0-is)
+    (broken_of (broken_in_tree (table_view c.args.tree.now)) c.in-Ok-Some.field-0 c.in-Ok-Some.found c.in-Ok-Some.ensures.first
+    c.in-Ok-Some.field-0-is)
 
 pub returns-in-Ok : goal.returns-in-Ok
 returns-in-Ok c =
     reads_product (table_view c.args.tree.now) c.in-Ok.product
-        (unbroken_of (broken_in_tree (table_view c.args.tree.now)) c.in-Ok-None.field-0 c.in-Ok-None.ensures c.in-Ok-None.field-0-is)
-        c.in-Ok.ensures
+    (unbroken_of (broken_in_tree (table_view c.args.tree.now)) c.in-Ok-None.field-0 c.in-Ok-None.ensures.first c.in-Ok-None.field-0-is)
+    c.in-Ok.ensures
