@@ -1,9 +1,5 @@
-pub mod Causes
-pub mod FlatLedger
-pub mod FlatRanges
-pub mod FlatRun
-pub mod FlatSystem
+pub mod Cases
+pub mod Ends
+pub mod Opened
 pub mod Outcome
-pub mod Reports
-pub mod Text
-pub mod Words
+pub mod Plans

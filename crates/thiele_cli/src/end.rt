@@ -1,14 +1,17 @@
 // How a run ends.
 ghost use Rattle.std.specs.Prelude.{◌≡◌};
-ghost use Rattle.thiele_cli.specs.Outcome.{status_of};
+ghost use Rattle.thiele_cli.specs.Ends.{status_of};
 
-use crate::report::Report;
+use product_model::RuleBreak;
+use reserve_report::Report;
 
 /// How a run ended. `run` says when each end comes.
 #[derive(Clone, Copy, Debug, PartialEq, Eq)]
 pub enum End {
-    /// The report was written.
+    /// The text of the command was written.
     Done,
+    /// The words have no reading.
+    BadWords,
     /// The words or the file are of a form that this program does not value yet.
     NotBuilt,
     /// The file could not be fetched.
@@ -17,6 +20,8 @@ pub enum End {
     TooLong { seen: u64 },
     /// The file is no TOML text.
     NotToml,
+    /// The file breaks this rule first, at its least place.
+    Rule(RuleBreak),
     /// Some of the text could not be written.
     WriteFault,
     /// Memory was refused.
@@ -30,9 +35,11 @@ impl End {
     {
         match self {
             End::Done => 0,
+            End::BadWords => 2,
             End::FetchFault => 3,
             End::TooLong { .. } => 4,
             End::NotToml => 5,
+            End::Rule(_) => 6,
             End::WriteFault => 8,
             End::Memory => 9,
             End::NotBuilt => 10,

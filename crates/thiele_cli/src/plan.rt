@@ -1,18 +1,23 @@
-// What is to be written for the words and the file that they name, before the sink is reached.
-ghost use Rattle.std.specs.Prelude.{◌≡◌, ◌++◌, None, IfOk, OnErr, codes, decimal};
-ghost use Rattle.thiele_cli.specs.FlatRanges.{HasRanges};
-ghost use Rattle.thiele_cli.specs.Words.{words_of};
-ghost use Rattle.thiele_cli.specs.Outcome.{IsReportOf, Refuses, Settles, SettlesFile, failed_name};
-ghost use Rattle.product_reader.specs.Flat.{product_of};
+// What is to be written for a command, before the sink is reached.
+ghost use Rattle.std.specs.Prelude.{◌≡◌, ◌++◌, ℕ, List, IfOk, OnErr, codes, decimal};
+ghost use Rattle.command_words.specs.Commands.{request_of};
+ghost use Rattle.command_words.specs.Readings.{AreReadAs};
+ghost use Rattle.reserve_report.specs.CheckText.{check_text};
+ghost use Rattle.thiele_cli.specs.Cases.{request_about};
+ghost use Rattle.thiele_cli.specs.Ends.{Prints, failed_name, rule_text};
+ghost use Rattle.thiele_cli.specs.Outcome.{Settles};
+ghost use Rattle.thiele_cli.specs.Plans.{SettlesFile, SettlesValue};
 
-use crate::decimal::push_decimal;
 use crate::end::End;
-use crate::report::Report;
-use crate::report_text::report_bytes;
+use crate::file::{Opened, opened};
+use crate::question::Question;
 use crate::valuation::value_report;
-use crate::words::asked_name;
+use command_words::Command;
 use io_ports::{FetchError, Shelf};
-use product_reader::{Flat, FlatError, read_flat};
+use plain_value::plain_numbers;
+use product_model::RuleBreak;
+use rate_bounds::Admitted;
+use reserve_report::{Report, check_bytes, push_decimal, report_bytes};
 use std::alloc::{AllocError, Global};
 
 /// The most bytes of a product file.
@@ -26,11 +31,10 @@ pub struct Plan {
     pub text: Vec<u8>,
 }
 
-/// The refusal by this end with this line.
-fn refusal(alloc: Global, end: End, line: &[u8]) -> Result<Plan, AllocError>
+/// The end with this text and no report.
+fn printed(alloc: Global, end: End, line: &[u8]) -> Result<Plan, AllocError>
     ensures end { IfOk result (λ plan. plan.end ≡ end) }
-    ensures report { IfOk result (λ plan. plan.report ≡ None) }
-    ensures line { IfOk result (λ plan. plan.text.items ≡ line.now) }
+    ensures text { IfOk result (λ plan. Prints plan.report plan.text.items line.now) }
 {
     Ok(Plan {
         end,
@@ -39,11 +43,27 @@ fn refusal(alloc: Global, end: End, line: &[u8]) -> Result<Plan, AllocError>
     })
 }
 
+/// The refusal by a rule.
+fn rule_refusal(alloc: Global, found: RuleBreak) -> Result<Plan, AllocError>
+    ensures end { IfOk result (λ plan. plan.end ≡ End.Rule found) }
+    ensures text { IfOk result (λ plan. Prints plan.report plan.text.items (rule_text found.rule found.place)) }
+{
+    let mut text = b"refused rule ".to_vec(alloc)?;
+    push_decimal(alloc, &mut text, u128::from(found.rule))?;
+    text.extend_from_slice(b" place ")?;
+    push_decimal(alloc, &mut text, u128::from(found.place))?;
+    text.push(b'\n')?;
+    Ok(Plan {
+        end: End::Rule(found),
+        report: None,
+        text,
+    })
+}
+
 /// The refusal of a file of which this many bytes were taken.
-fn plan_too_long(alloc: Global, seen: u64) -> Result<Plan, AllocError>
+fn length_refusal(alloc: Global, seen: u64) -> Result<Plan, AllocError>
     ensures end { IfOk result (λ plan. plan.end ≡ End.TooLong seen) }
-    ensures report { IfOk result (λ plan. plan.report ≡ None) }
-    ensures line { IfOk result (λ plan. plan.text.items ≡ codes "refused length " ++ decimal seen ++ codes "\n") }
+    ensures text { IfOk result (λ plan. Prints plan.report plan.text.items (codes "refused length " ++ decimal seen ++ codes "\n")) }
 {
     let mut text = b"refused length ".to_vec(alloc)?;
     push_decimal(alloc, &mut text, u128::from(seen))?;
@@ -55,14 +75,28 @@ fn plan_too_long(alloc: Global, seen: u64) -> Result<Plan, AllocError>
     })
 }
 
-/// The report of a flat product, and its text.
-fn plan_flat(alloc: Global, flat: &Flat) -> Result<Plan, AllocError>
-    requires ranges { HasRanges (product_of flat.now) }
+/// The limits of a product.
+fn limits_plan(alloc: Global, admitted: &Admitted) -> Result<Plan, AllocError>
     ensures end { IfOk result (λ plan. plan.end ≡ End.Done) }
-    ensures report { IfOk result (λ plan. IsReportOf (product_of flat.now) plan.report plan.text.items) }
+    ensures text { IfOk result (λ plan. Prints plan.report plan.text.items (check_text admitted.now)) }
 {
-    let report = value_report(alloc, flat)?;
-    let text = report_bytes(alloc, flat, &report)?;
+    Ok(Plan {
+        end: End::Done,
+        report: None,
+        text: check_bytes(alloc, admitted)?,
+    })
+}
+
+/// The value of a product at issue, where it is plain; another one is not built yet.
+fn value_plan(alloc: Global, admitted: &Admitted) -> Result<Plan, AllocError>
+    ensures { IfOk result (λ plan. SettlesValue admitted.now plan.end plan.report plan.text.items) }
+{
+    let product = admitted.product();
+    let Some(plain) = plain_numbers(product) else {
+        return printed(alloc, End::NotBuilt, b"refused unbuilt\n");
+    };
+    let report = value_report(alloc, product, plain)?;
+    let text = report_bytes(alloc, product, &report)?;
     Ok(Plan {
         end: End::Done,
         report: Some(report),
@@ -70,40 +104,46 @@ fn plan_flat(alloc: Global, flat: &Flat) -> Result<Plan, AllocError>
     })
 }
 
-/// What the bytes of the file lead to.
-fn plan_file(alloc: Global, bytes: &[u8]) -> Result<Plan, AllocError>
-    ensures { IfOk result (λ plan. SettlesFile bytes.now plan.end plan.report plan.text.items) }
+/// What the question about a product leads to.
+fn product_plan(alloc: Global, question: Question, admitted: &Admitted) -> Result<Plan, AllocError>
+    ensures limits { question ≡ Question.Limits → IfOk result (λ plan.
+        (plan.end ≡ End.Done) × Prints plan.report plan.text.items (check_text admitted.now)) }
+    ensures value { question ≡ Question.ValueAtIssue → IfOk result (λ plan.
+        SettlesValue admitted.now plan.end plan.report plan.text.items) }
 {
-    match read_flat(alloc, bytes) {
-        Ok(flat) => match plan_flat(alloc, &flat) {
-            Ok(plan) => Ok(plan),
-            Err(refused) => Err(refused),
-        },
-        Err(FlatError::NotBuilt) => refusal(alloc, End::NotBuilt, b"refused unbuilt\n"),
-        Err(FlatError::NotToml) => refusal(alloc, End::NotToml, b"refused toml\n"),
-        Err(FlatError::Memory) => Err(AllocError),
+    match question {
+        Question::Limits => limits_plan(alloc, admitted),
+        Question::ValueAtIssue => value_plan(alloc, admitted),
     }
 }
 
-/// What the words and the file that they name lead to. Words that ask for nothing that is built are refused before
-/// the fetch.
-pub fn plan_words<H: Shelf>(
+/// What the question about the bytes of a file leads to.
+fn file_plan(alloc: Global, question: Question, bytes: &[u8]) -> Result<Plan, AllocError>
+    ensures { IfOk result (λ plan. SettlesFile question bytes.now plan.end plan.report plan.text.items) }
+{
+    match opened(alloc, bytes)? {
+        Opened::Admitted(admitted) => product_plan(alloc, question, &admitted),
+        Opened::NotToml => printed(alloc, End::NotToml, b"refused toml\n"),
+        Opened::Rule(found) => rule_refusal(alloc, found),
+    }
+}
+
+/// What a question about a file leads to, once it is fetched.
+fn named_plan<H: Shelf>(
     alloc: Global,
-    words: &[String],
+    question: Question,
+    name: &str,
     shelf: &mut H,
 ) -> Result<Plan, AllocError>
-    ensures settles { IfOk result (λ plan.
-        Settles (H.files shelf.old) (words_of words.now) plan.end plan.report plan.text.items) }
-    ensures failed { IfOk result (λ plan.
-        H.failed shelf.new ≡ H.failed shelf.old ++ failed_name plan.end (words_of words.now)) }
+    ensures settles { IfOk result (λ plan. (words : List (List ℕ)) → AreReadAs words (request_about question name.now) →
+        Settles (H.files shelf.old) words plan.end plan.report plan.text.items) }
+    ensures failed { IfOk result (λ plan. (words : List (List ℕ)) → AreReadAs words (request_about question name.now) →
+        H.failed shelf.new ≡ H.failed shelf.old ++ failed_name plan.end words) }
     ensures memory { OnErr result (H.failed shelf.new ≡ H.failed shelf.old) }
     ensures files { H.files shelf.new ≡ H.files shelf.old }
 {
-    let Some(name) = asked_name(words) else {
-        return refusal(alloc, End::NotBuilt, b"refused unbuilt\n");
-    };
     match shelf.fetch(alloc, name, MOST_BYTES) {
-        Ok(bytes) => match plan_file(alloc, &bytes) {
+        Ok(bytes) => match file_plan(alloc, question, &bytes) {
             Ok(plan) => Ok(plan),
             Err(refused) => Err(refused),
         },
@@ -112,10 +152,34 @@ pub fn plan_words<H: Shelf>(
             report: None,
             text: Vec::new(alloc),
         }),
-        Err(FetchError::TooLong(seen)) => match plan_too_long(alloc, seen) {
+        Err(FetchError::TooLong(seen)) => match length_refusal(alloc, seen) {
             Ok(plan) => Ok(plan),
             Err(refused) => Err(refused),
         },
         Err(FetchError::Memory) => Err(AllocError),
+    }
+}
+
+/// What a command leads to. One that is not built is refused before the fetch.
+pub fn command_plan<H: Shelf>(
+    alloc: Global,
+    command: Command<'_>,
+    shelf: &mut H,
+) -> Result<Plan, AllocError>
+    ensures settles { IfOk result (λ plan. (words : List (List ℕ)) → AreReadAs words (request_of command) →
+        Settles (H.files shelf.old) words plan.end plan.report plan.text.items) }
+    ensures failed { IfOk result (λ plan. (words : List (List ℕ)) → AreReadAs words (request_of command) →
+        H.failed shelf.new ≡ H.failed shelf.old ++ failed_name plan.end words) }
+    ensures memory { OnErr result (H.failed shelf.new ≡ H.failed shelf.old) }
+    ensures files { H.files shelf.new ≡ H.files shelf.old }
+{
+    match command {
+        Command::Check(name) => named_plan(alloc, Question::Limits, name, shelf),
+        Command::Value(name) => named_plan(alloc, Question::ValueAtIssue, name, shelf),
+        Command::Reserves(..)
+        | Command::Occupancy(..)
+        | Command::Moments(..)
+        | Command::Premium(_)
+        | Command::Generate(_) => printed(alloc, End::NotBuilt, b"refused unbuilt\n"),
     }
 }
