@@ -1,0 +1,5 @@
+pub mod Denominators
+pub mod PlainSteps
+pub mod Steadiness
+pub mod StoredCells
+pub mod Valuations

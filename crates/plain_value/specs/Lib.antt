@@ -1,0 +1,3 @@
+pub mod PlainNumbers
+pub mod Steadiness
+pub mod Values

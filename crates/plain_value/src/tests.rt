@@ -1,0 +1,1 @@
+use crate::{Plain, Valued, plain_numbers, value};
