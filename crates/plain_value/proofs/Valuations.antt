@@ -7,7 +7,7 @@ use Rattle.model_specs.specs.Ledgers as model
 use Rattle.model_specs.specs.RecordRules.{IsWellFormed}
 use Rattle.plain_laws.specs.PlainProduct.{PlainProduct, HasRanges, plain_of}
 use Rattle.plain_laws.specs.PlainRun.{cells_of}
-use Rattle.plain_laws.specs.PlainLedger.{radius, scale, tolerance}
+use Rattle.plain_laws.specs.PlainLedger.{radius, scale}
 use Rattle.plain_laws.specs.PlainSystem.{IsMidpoint}
 use Rattle.plain_laws.specs.Ends.{AreEnds}
 use Rattle.plain_laws.proofs.PlainEnds.{ends_enclose, ends_are_narrow}

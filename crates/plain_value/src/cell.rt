@@ -37,11 +37,7 @@ fn payment_number(rate: i64, scale: u32) -> i128
 }
 
 /// The equation of every cell, with values divided by 2^scale.
-pub(crate) fn cell_system(
-    alloc: Global,
-    plain: Plain,
-    scale: u32,
-) -> Result<CellSystem, AllocError>
+pub(crate) fn cell_system(alloc: Global, plain: Plain, scale: u32) -> Result<CellSystem, AllocError>
     requires ranges { HasRanges (plain_product_of plain) }
     requires scale { scale ≤ 56 }
     requires within { unsigned_abs plain.rate ≤ 6 * 2 ^ scale }
