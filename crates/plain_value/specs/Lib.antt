@@ -1,0 +1,4 @@
+pub mod PlainNumbers
+pub mod Steadiness
+pub mod Values
+pub mod YearPlans
