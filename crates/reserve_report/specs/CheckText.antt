@@ -6,12 +6,18 @@ use Rattle.model_specs.specs.Payments.{payment_plan, pattern_plan}
 use Rattle.model_specs.specs.Ledgers.{bound1024, scale, radius, radius_forward, second_radius}
 use Rattle.reserve_report.specs.Decimals.{millionths_of_size}
 
--- check NAME, and the numbers of states, months, transitions and lumps
-abbrev pub product_lines : Product → List ℕ
-product_lines p =
-    codes "check " ++ p.name ++ codes "\nstates " ++ decimal (length p.states) ++ codes " months " ++ decimal p.months
-    ++ codes " transitions " ++ decimal (length p.transitions) ++ codes " lumps " ++ decimal (length p.lumps)
-    ++ codes "\n"
+-- check NAME
+abbrev pub name_line : Product → List ℕ
+name_line p = codes "check " ++ p.name ++ codes "\n"
+
+-- states A months M
+abbrev pub states_and_months : Product → List ℕ
+states_and_months p = codes "states " ++ decimal (length p.states) ++ codes " months " ++ decimal p.months
+
+-- transitions T lumps L, and the line's end
+abbrev pub transitions_and_lumps : Product → List ℕ
+transitions_and_lumps p =
+    codes " transitions " ++ decimal (length p.transitions) ++ codes " lumps " ++ decimal (length p.lumps) ++ codes "\n"
 
 -- the scale of the payment plan, and its bound in 1/1024 minor units
 abbrev pub scale_line : Product → List ℕ
@@ -19,16 +25,25 @@ scale_line p =
     codes "scale " ++ decimal (scale p (payment_plan p)) ++ codes " bound " ++ decimal (bound1024 p (payment_plan p))
     ++ codes "\n"
 
--- how wide a row of each kind may be: of the value at date 0, and of an occupancy at the term, in millionths; of a
--- second moment and of a variance at date 0, in squared minor units
-abbrev pub tolerance_lines : Product → List ℕ
-tolerance_lines p =
-    let g = scale p (payment_plan p) in
-    codes "tolerance value " ++ millionths_of_size (tolerance_first (radius p 0) g)
-    ++ codes "\ntolerance occupancy " ++ millionths_of_size (tolerance_first (radius_forward p p.months) 0)
-    ++ codes "\ntolerance second " ++ decimal (tolerance_second (second_radius p 0) g)
-    ++ codes "\ntolerance variance " ++ decimal (tolerance_variance (second_radius p 0) (radius p 0) g)
-    ++ codes "\n"
+-- a line of a word and a number in millionths, and one of a word and a whole number
+abbrev pub width_line : List ℕ → ℕ → List ℕ
+width_line word width = word ++ millionths_of_size width ++ codes "\n"
+
+abbrev pub whole_line : List ℕ → ℕ → List ℕ
+whole_line word width = word ++ decimal width ++ codes "\n"
+
+-- how wide a row may be, in millionths: of the value at date 0, and of an occupancy at the term
+abbrev pub first_tolerances : Product → List ℕ
+first_tolerances p =
+    width_line (codes "tolerance value ") (tolerance_first (radius p 0) (scale p (payment_plan p)))
+    ++ width_line (codes "tolerance occupancy ") (tolerance_first (radius_forward p p.months) 0)
+
+-- how wide a row may be, in squared minor units: of a second moment, and of a variance, at date 0
+abbrev pub second_tolerances : Product → List ℕ
+second_tolerances p =
+    whole_line (codes "tolerance second ") (tolerance_second (second_radius p 0) (scale p (payment_plan p)))
+    ++ whole_line (codes "tolerance variance ")
+    (tolerance_variance (second_radius p 0) (radius p 0) (scale p (payment_plan p)))
 
 -- the scale of the premium pattern, and how wide a row of its value may be, in millionths
 abbrev pub pattern_line : Product → List ℕ
@@ -38,4 +53,5 @@ pattern_line p =
 
 -- the whole text
 abbrev pub check_text : Product → List ℕ
-check_text p = product_lines p ++ scale_line p ++ tolerance_lines p ++ pattern_line p
+check_text p = name_line p ++ states_and_months p ++ transitions_and_lumps p ++ scale_line p ++ first_tolerances p
+    ++ second_tolerances p ++ pattern_line p

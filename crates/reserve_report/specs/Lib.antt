@@ -1,4 +1,5 @@
 pub mod CheckText
 pub mod Decimals
+pub mod Limits
 pub mod ReportText
 pub mod Reports

@@ -1,7 +1,9 @@
 //! Reports and the texts that the program writes.
 #![tactic(auto)]
 
+mod check_text;
 mod decimal;
+mod limits;
 mod report;
 mod report_text;
 
