@@ -1,0 +1,5 @@
+pub mod LeastAndGreatest
+pub mod RateSteps
+pub mod MonthRules
+pub mod NaturalRates
+pub mod FirstMonths
