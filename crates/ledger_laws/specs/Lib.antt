@@ -1,0 +1,6 @@
+pub mod BoundLaws
+pub mod GrowthLaws
+pub mod MonthLaws
+pub mod PaymentLaws
+pub mod PlanBoundLaws
+pub mod SecondLaws
