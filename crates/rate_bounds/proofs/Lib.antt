@@ -3,3 +3,4 @@ pub mod RateSteps
 pub mod MonthRules
 pub mod NaturalRates
 pub mod FirstMonths
+pub mod PaySteps

@@ -6,6 +6,7 @@ mod curves;
 mod exits;
 mod extremes;
 mod first_month;
+mod pay;
 mod rates;
 mod rules;
 

@@ -2,6 +2,7 @@
 
 ghost use Rattle.std.specs.Prelude.{◌≡◌, ◌^◌, ◌<◌, ◌≤◌, All, length, map, min};
 ghost use Rattle.model_specs.specs.MonthNumbers.{month_unit};
+ghost use Rattle.model_specs.specs.RecordRules.{IsWellFormed};
 ghost use Rattle.rate_bounds.specs.MonthRates.{rate_part, rate_sum, exit_sum, greatest_exit_sum, least_of, least_rate};
 
 use crate::exits::exits_of;
@@ -17,6 +18,7 @@ pub(crate) fn month_unit(p: &Product) -> u128
     ensures value { result ≡ month_unit p.now }
     ensures some { 2488320 ≤ result }
     ensures most { result < 2 ^ 62 }
+    ensures lawful { IsWellFormed p.now }
 {
     2_488_320 * u128::from(p.den().unsigned_abs())
 }
