@@ -4,3 +4,4 @@ pub mod MonthRules
 pub mod NaturalRates
 pub mod FirstMonths
 pub mod PaySteps
+pub mod SmallGrowth

@@ -1,3 +1,4 @@
 pub mod Breaks
+pub mod Growths
 pub mod MonthPay
 pub mod MonthRates

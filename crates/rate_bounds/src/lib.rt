@@ -2,12 +2,16 @@
 //! ledgers that bound a valuation.
 #![tactic(auto)]
 
+mod bounds;
 mod curves;
 mod exits;
 mod extremes;
 mod first_month;
+mod growth;
+mod numbers;
 mod pay;
 mod rates;
 mod rules;
 
+pub use bounds::{MonthBounds, month_bounds};
 pub use curves::{MonthCurves, month_curves};
