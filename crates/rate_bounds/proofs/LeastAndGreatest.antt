@@ -28,7 +28,7 @@ size_from_zero (pos zero) = refl
 size_from_zero (pos (suc n)) = grind (arith, ints)
 size_from_zero (negsuc n) = grind (arith, ints)
 
-greatest_natural-push : (xs : List ℕ) (x : ℕ) → greatest_natural (xs ++ x ∷ []) ≡ max (greatest_natural xs) x
+pub greatest_natural-push : (xs : List ℕ) (x : ℕ) → greatest_natural (xs ++ x ∷ []) ≡ max (greatest_natural xs) x
 greatest_natural-push [] x = omega arith
 greatest_natural-push (y ∷ xs) x = omega (arith, greatest_natural-push xs x)
 

@@ -1,7 +1,11 @@
+pub mod CellSteps
+pub mod FirstMonths
 pub mod LeastAndGreatest
-pub mod RateSteps
+pub mod LumpSteps
 pub mod MonthRules
 pub mod NaturalRates
-pub mod FirstMonths
 pub mod PaySteps
+pub mod RateSteps
 pub mod SmallGrowth
+pub mod SumSizes
+pub mod TableSteps

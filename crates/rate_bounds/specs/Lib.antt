@@ -1,4 +1,7 @@
 pub mod Breaks
 pub mod Growths
+pub mod LedgerSteps
 pub mod MonthPay
 pub mod MonthRates
+pub mod MonthTables
+pub mod SecondCells

@@ -8,10 +8,17 @@ mod exits;
 mod extremes;
 mod first_month;
 mod growth;
+mod ledger;
+mod lumps;
 mod numbers;
 mod pay;
+mod plan_bound;
+mod radii;
 mod rates;
 mod rules;
+mod second_radii;
+mod sums;
+mod table;
 
 pub use bounds::{MonthBounds, month_bounds};
 pub use curves::{MonthCurves, month_curves};
