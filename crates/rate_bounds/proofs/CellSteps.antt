@@ -25,3 +25,8 @@ pub one_date_more : (f : ℕ → ℕ) (n x : ℕ) (sofar more : List ℕ) → so
     → more ≡ sofar ++ x ∷ [] → more ≡ list_of (n + 1) f
 one_date_more f n x sofar more are here is =
     is ∙ ap (λ xs. xs ++ x ∷ []) are ∙ ap (λ y. list_of n f ++ y ∷ []) here ∙ sym (list_of_more n f)
+
+pub all_dates : (f : ℕ → ℕ) (months n x : ℕ) (sofar more : List ℕ) → n ≡ months → sofar ≡ list_of n f → x ≡ f n
+    → more ≡ sofar ++ x ∷ [] → more ≡ list_of (suc months) f
+all_dates f months n x sofar more all are here is =
+    one_date_more f n x sofar more are here is ∙ ap (λ k. list_of k f) (add-one n ∙ ap (λ k. suc k) all)

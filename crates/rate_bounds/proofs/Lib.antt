@@ -1,3 +1,4 @@
+pub mod BoundSteps
 pub mod CellSteps
 pub mod FirstMonths
 pub mod LeastAndGreatest
@@ -5,7 +6,9 @@ pub mod LumpSteps
 pub mod MonthRules
 pub mod NaturalRates
 pub mod PaySteps
+pub mod RadiusSteps
 pub mod RateSteps
+pub mod SecondSteps
 pub mod SmallGrowth
 pub mod SumSizes
 pub mod TableSteps

@@ -1,3 +1,4 @@
+pub mod Admissions
 pub mod Breaks
 pub mod Growths
 pub mod LedgerSteps

@@ -2,6 +2,8 @@
 //! ledgers that bound a valuation.
 #![tactic(auto)]
 
+mod admission;
+mod admitted;
 mod bounds;
 mod curves;
 mod exits;
@@ -20,5 +22,7 @@ mod second_radii;
 mod sums;
 mod table;
 
+pub use admission::{AdmitError, admit};
+pub use admitted::Admitted;
 pub use bounds::{MonthBounds, month_bounds};
 pub use curves::{MonthCurves, month_curves};

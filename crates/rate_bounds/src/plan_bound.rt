@@ -38,9 +38,10 @@ fn month_back(
     requires fits { bound_step p.now (plan_named which p.now) month bound 32 ≤ 2 ^ 80 }
     ensures { result ≡ bound_step p.now (plan_named which p.now) month bound 32 }
 {
-    let lump = UNITS * u128::from(greatest_lump(p, which, month + 1));
     let kappa40 = kappa_at(p, bounds, month);
-    grow_cells(bound + lump, kappa40, pay_at(p, bounds, which, month), CELLS)
+    let pay = pay_at(p, bounds, which, month);
+    let lump = UNITS * u128::from(greatest_lump(p, which, month + 1));
+    grow_cells(bound + lump, kappa40, pay, CELLS)
 }
 
 /// The bound of a plan in 1/1024 minor units: from the term to issue, lumps of a date before the cells of the month

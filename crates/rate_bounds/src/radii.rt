@@ -26,7 +26,7 @@ fn over_month(p: &Product, bounds: &[MonthBounds], month: u32, w: u128) -> u128
     requires rules { ObeysAllMonths p.now }
     requires table { AreBoundsUpTo p.now p.now.months bounds.now }
     requires month { month < p.now.months }
-    requires fits { (k : ℕ) → k ≤ 32 → radius_step p.now month w k ≤ 2 ^ 80 }
+    requires fits { (k : ℕ) → k ≤ 32 → radius_step p.now month w k ≤ 2 ^ 40 }
     ensures { result ≡ radius_step p.now month w 32 }
 {
     grow_cells(w, kappa_at(p, bounds, month), CELL, CELLS)

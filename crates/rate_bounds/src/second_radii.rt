@@ -38,9 +38,9 @@ fn month_back(
     requires fits { (k : ℕ) → k ≤ 32 → second_step p.now (payment_plan p.now) largest month w second k ≤ 2 ^ 80 }
     ensures { result ≡ second_step p.now (payment_plan p.now) largest month w second 32 }
 {
-    let adds = date_adds(lumps_of(p, Which::Benefits, month + 1), w, largest);
     let kappa40 = kappa_at(p, bounds, month);
     let pay = pay_at(p, bounds, Which::Benefits, month);
+    let adds = date_adds(lumps_of(p, Which::Benefits, month + 1), w, largest);
     second_grow_cells(second + adds, w, kappa40, pay, largest, CELLS)
 }
 

@@ -31,6 +31,7 @@ pub(crate) fn kappa_at(p: &Product, bounds: &[MonthBounds], month: u32) -> u64
     requires month { month < p.now.months }
     ensures value { result ≡ kappa40 p.now month }
     ensures most { result ≤ 2 ^ 28 }
+    ensures term { month < 1200 }
 {
     month_numbers_are_small();
     let _months = p.months();
