@@ -1,5 +1,6 @@
 pub mod BoundSteps
 pub mod CellSteps
+pub mod DatedRadii
 pub mod FirstMonths
 pub mod LeastAndGreatest
 pub mod LumpSteps
