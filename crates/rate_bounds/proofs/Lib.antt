@@ -1,6 +1,7 @@
 pub mod BoundSteps
 pub mod CellSteps
 pub mod DatedRadii
+pub mod FirstBroken
 pub mod FirstMonths
 pub mod LeastAndGreatest
 pub mod LumpSteps

@@ -1,16 +1,16 @@
 //! Admission of products.
 
-ghost use Rattle.std.specs.Prelude.{◌≡◌, IfOk, Some};
+ghost use Rattle.std.specs.Prelude.{◌≡◌, IfOk, Some, None};
 ghost use Rattle.model_specs.specs.ValuationRules.{IsAdmissible, first_broken};
-ghost use Rattle.rate_bounds.specs.Breaks.{break_of};
+ghost use Rattle.rate_bounds.specs.Admissions.{KeepsLedgers};
+ghost use Rattle.rate_bounds.specs.Breaks.{break_of, broken_by_month};
 ghost use Rattle.rate_bounds.specs.declared.admission.AdmitError.TheVariants.{Memory};
 ghost use Rattle.product_model.specs.declared.breaks.RuleBreak as breaks;
 
-use crate::admitted::{Admitted, PlanBound};
+use crate::admitted::Admitted;
 use crate::first_month::broken_by_month;
-use crate::plan_bound::{bound1024, plan_scale};
-use crate::radii::{radii_back, radii_forward};
-use crate::second_radii::second_radii;
+use crate::ledgers::{Ledgers, ledgers_of};
+use crate::plan_bound::bound1024;
 use crate::table::bounds_of_months;
 use payment_plan::Which;
 use product_model::{Product, RuleBreak};
@@ -38,33 +38,39 @@ impl From<AllocError> for AdmitError {
     }
 }
 
+// The ledgers of a product that obeys rules 15 to 17 in each month.
+fn ledgers_by_rule_18(alloc: Global, p: &Product) -> Result<Ledgers, AdmitError>
+    requires { broken_by_month p.now ≡ None }
+    ensures ok { IfOk result (KeepsLedgers p.now) }
+    ensures rule { (broken : breaks.RuleBreak) → result ≡ Err (AdmitError.Rule broken) → first_broken p.now ≡ Some (break_of broken) }
+{
+    let months = bounds_of_months(alloc, p)?;
+    let bound = bound1024(p, &months, Which::Benefits);
+    if bound > MOST {
+        return Err(AdmitError::Rule(RuleBreak { rule: 18, place: 0 }));
+    }
+    Ok(ledgers_of(alloc, p, months, bound)?)
+}
+
+// The ledgers of a product that obeys rules 15 to 18.
+fn ledgers_by_rules(alloc: Global, p: &Product) -> Result<Ledgers, AdmitError>
+    ensures ok { IfOk result (KeepsLedgers p.now) }
+    ensures rule { (broken : breaks.RuleBreak) → result ≡ Err (AdmitError.Rule broken) → first_broken p.now ≡ Some (break_of broken) }
+{
+    match broken_by_month(p) {
+        Some(broken) => Err(AdmitError::Rule(broken)),
+        None => ledgers_by_rule_18(alloc, p),
+    }
+}
+
 /// Admits a product that obeys rules 15 to 18, and takes the ledgers of its valuation. `Memory` may come at any time.
 pub fn admit(alloc: Global, p: Product) -> Result<Admitted, AdmitError>
     ensures ok { IfOk result (λ a. a ≡ p) }
     ensures admissible { IfOk result (λ _. IsAdmissible p) }
     ensures rule { (broken : breaks.RuleBreak) → result ≡ Err (AdmitError.Rule broken) → first_broken p ≡ Some (break_of broken) }
 {
-    if let Some(broken) = broken_by_month(&p) {
-        return Err(AdmitError::Rule(broken));
+    match ledgers_by_rules(alloc, &p) {
+        Ok(ledgers) => Ok(Admitted::of(p, ledgers)),
+        Err(cause) => Err(cause),
     }
-    let months = bounds_of_months(alloc, &p)?;
-    let bound = bound1024(&p, &months, Which::Benefits);
-    if bound > MOST {
-        return Err(AdmitError::Rule(RuleBreak { rule: 18, place: 0 }));
-    }
-    let benefits = PlanBound {
-        bound1024: bound,
-        scale: plan_scale(bound),
-    };
-    let bound = bound1024(&p, &months, Which::Pattern);
-    let pattern = PlanBound {
-        bound1024: bound,
-        scale: plan_scale(bound),
-    };
-    let radii = radii_back(alloc, &p, &months)?;
-    let seconds = second_radii(alloc, &p, &months, &radii, benefits.scale)?;
-    let forwards = radii_forward(alloc, &p, &months)?;
-    Ok(Admitted::of(
-        p, months, benefits, pattern, radii, seconds, forwards,
-    ))
 }

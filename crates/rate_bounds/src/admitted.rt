@@ -11,6 +11,7 @@ ghost use Rattle.rate_bounds.specs.MonthPay.{plan_named};
 ghost use Rattle.rate_bounds.specs.Admissions.{KeepsLedgers};
 
 use crate::bounds::MonthBounds;
+use crate::ledgers::Ledgers;
 use ledger_laws::{admissible_products_obey, month_numbers_are_small, pay_is_small};
 use ledger_laws::{pattern_bound_stays_small, plan_bound_stays_small};
 use ledger_laws::{radii_stay_small, second_stays_small};
@@ -18,24 +19,12 @@ use payment_plan::Which;
 use product_model::Product;
 use std::marker::Model;
 
-/// The bound of a plan in 1/1024 minor units, and its scale.
-#[derive(Clone, Copy)]
-pub(crate) struct PlanBound {
-    pub bound1024: u128,
-    pub scale: u32,
-}
-
 /// A product that can be valued: it obeys rules 3 to 18. It keeps the numbers of each month and the ledgers of each
 /// date.
 #[derive(Drop)]
 pub struct Admitted {
     product: Product,
-    months: Vec<MonthBounds>,
-    benefits: PlanBound,
-    pattern: PlanBound,
-    radii: Vec<u128>,
-    seconds: Vec<u128>,
-    forwards: Vec<u128>,
+    ledgers: Ledgers,
 }
 
 impl Model for Admitted {
@@ -46,32 +35,16 @@ impl Model for Admitted {
 
     ghost view = { λ a. a.product };
 
-    ghost invariant = { λ a. KeepsLedgers a.product a.months.items a.benefits a.pattern a.radii.items a.seconds.items a.forwards.items };
+    ghost invariant = { λ a. KeepsLedgers a.product a.ledgers };
 }
 
 impl Admitted {
     /// The product with its ledgers.
-    pub(crate) fn of(
-        product: Product,
-        months: Vec<MonthBounds>,
-        benefits: PlanBound,
-        pattern: PlanBound,
-        radii: Vec<u128>,
-        seconds: Vec<u128>,
-        forwards: Vec<u128>,
-    ) -> Admitted
-        requires { KeepsLedgers product months.items benefits pattern radii.items seconds.items forwards.items }
+    pub(crate) fn of(product: Product, ledgers: Ledgers) -> Admitted
+        requires { KeepsLedgers product ledgers }
         ensures { result ≡ product }
     {
-        Admitted {
-            product,
-            months,
-            benefits,
-            pattern,
-            radii,
-            seconds,
-            forwards,
-        }
+        Admitted { product, ledgers }
     }
 
     /// The product.
@@ -98,7 +71,7 @@ impl Admitted {
         admissible_products_obey();
         month_numbers_are_small();
         pay_is_small();
-        &self.months[month as usize]
+        &self.ledgers.months[month as usize]
     }
 
     /// The scale g of a plan: its moments are kept divided by 2^g.
@@ -110,8 +83,8 @@ impl Admitted {
         plan_bound_stays_small();
         pattern_bound_stays_small();
         match which {
-            Which::Benefits => self.benefits.scale,
-            Which::Pattern => self.pattern.scale,
+            Which::Benefits => self.ledgers.benefits.scale,
+            Which::Pattern => self.ledgers.pattern.scale,
         }
     }
 
@@ -124,8 +97,8 @@ impl Admitted {
         plan_bound_stays_small();
         pattern_bound_stays_small();
         match which {
-            Which::Benefits => self.benefits.bound1024,
-            Which::Pattern => self.pattern.bound1024,
+            Which::Benefits => self.ledgers.benefits.bound1024,
+            Which::Pattern => self.ledgers.pattern.bound1024,
         }
     }
 
@@ -137,7 +110,7 @@ impl Admitted {
     {
         admissible_products_obey();
         radii_stay_small();
-        self.radii[(self.product.months() - month) as usize]
+        self.ledgers.radii[(self.product.months() - month) as usize]
     }
 
     /// The second radius of the payment plan at a date before its lumps, in units of 2^-64.
@@ -148,7 +121,7 @@ impl Admitted {
     {
         admissible_products_obey();
         second_stays_small();
-        self.seconds[(self.product.months() - month) as usize]
+        self.ledgers.seconds[(self.product.months() - month) as usize]
     }
 
     /// The forward radius at a date, in units of 2^-64.
@@ -159,6 +132,6 @@ impl Admitted {
     {
         admissible_products_obey();
         radii_stay_small();
-        self.forwards[month as usize]
+        self.ledgers.forwards[month as usize]
     }
 }

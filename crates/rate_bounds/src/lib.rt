@@ -5,12 +5,13 @@
 mod admission;
 mod admitted;
 mod bounds;
+mod cells;
 mod curves;
 mod exits;
 mod extremes;
 mod first_month;
 mod growth;
-mod ledger;
+mod ledgers;
 mod lumps;
 mod numbers;
 mod pay;

@@ -2,6 +2,7 @@
 
 ghost use Rattle.std.specs.Prelude.{◌≡◌, ℕ, ◌^◌, ◌<◌, ◌≤◌};
 ghost use Rattle.model_specs.specs.Ledgers as ledgers;
+ghost use Rattle.model_specs.specs.RecordRules.{IsWellFormed};
 ghost use Rattle.frac_laws.specs.Ledger.{scale_of_bound};
 ghost use Rattle.ledger_laws.specs.MonthLaws.{ObeysAllMonths};
 ghost use Rattle.rate_bounds.specs.MonthPay.{plan_named};
@@ -9,7 +10,7 @@ ghost use Rattle.rate_bounds.specs.MonthTables.{AreBoundsUpTo};
 ghost use Rattle.rate_bounds.specs.LedgerSteps.{bound_step};
 
 use crate::bounds::MonthBounds;
-use crate::ledger::grow_cells;
+use crate::cells::grow_cells;
 use crate::lumps::greatest_lump;
 use crate::sums::greatest_sum;
 use crate::table::{kappa_at, pay_at};
@@ -49,7 +50,8 @@ fn month_back(
 pub(crate) fn bound1024(p: &Product, bounds: &[MonthBounds], which: Which) -> u128
     requires rules { ObeysAllMonths p.now }
     requires table { AreBoundsUpTo p.now p.now.months bounds.now }
-    ensures { result ≡ ledgers.bound1024 p.now (plan_named which p.now) }
+    ensures value { result ≡ ledgers.bound1024 p.now (plan_named which p.now) }
+    ensures lawful { IsWellFormed p.now }
 {
     bound_never_falls();
     plan_bound_stays_small();

@@ -9,7 +9,7 @@ ghost use Rattle.rate_bounds.specs.MonthTables.{AreBoundsUpTo};
 ghost use Rattle.rate_bounds.specs.LedgerSteps.{radius_step};
 
 use crate::bounds::MonthBounds;
-use crate::ledger::grow_cells;
+use crate::cells::grow_cells;
 use crate::table::kappa_at;
 use ledger_laws::radii_stay_small;
 use product_model::Product;

@@ -9,7 +9,7 @@ ghost use Rattle.rate_bounds.specs.MonthTables.{AreBoundsUpTo};
 ghost use Rattle.rate_bounds.specs.LedgerSteps.{radius_step, second_step};
 
 use crate::bounds::MonthBounds;
-use crate::ledger::second_grow_cells;
+use crate::cells::second_grow_cells;
 use crate::lumps::{date_adds, lumps_of};
 use crate::table::{kappa_at, pay_at};
 use ledger_laws::{radii_stay_small, second_stays_small};

@@ -28,7 +28,7 @@ overflow_add-result c =
     (bound_is_small c.plan_bound_stays_small.ensures.payments c.pattern_bound_stays_small.ensures c.args.which
     c.args.p.now c.months-months.ensures.lawful c.requires.rules)
 
-pub returns : goal.returns
-returns c =
+pub returns-clause-value : goal.returns-clause-value
+returns-clause-value c =
     bound_is_whole c.args.p.now (plan_named c.args.which c.args.p.now) c.loop-back.back c.loop-back.bound c.from.result
     (omega arith) c.loop-back.invariant (c.from.ensures ∙ c.greatest_lump.ensures)

@@ -6,4 +6,4 @@ returns-in-Pattern-clause-most c =
     let admissible = c.self.invariant.admissible in
     let small = c.pattern_bound_stays_small.ensures c.self.inside.product admissible.well_formed
         (c.admissible_products_obey.ensures c.self.inside.product admissible) in
-    omega (arith, c.self.invariant.pattern_bound, small.below)
+    omega (arith, c.self.invariant.ledgers.pattern_bound, small.below)

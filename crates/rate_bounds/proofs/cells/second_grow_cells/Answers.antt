@@ -1,5 +1,5 @@
 use Rattle.rate_bounds.proofs.CellSteps.{one_cell_more, second_cell_more}
-use Rattle.rate_bounds.proofs.ledger.second_grow_cells.Goals as goal
+use Rattle.rate_bounds.proofs.cells.second_grow_cells.Goals as goal
 
 pub loop-cell-preserved : goal.loop-cell-preserved
 loop-cell-preserved c = record {

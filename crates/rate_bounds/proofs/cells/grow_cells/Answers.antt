@@ -1,5 +1,5 @@
 use Rattle.rate_bounds.proofs.CellSteps.{one_cell_more}
-use Rattle.rate_bounds.proofs.ledger.grow_cells.Goals as goal
+use Rattle.rate_bounds.proofs.cells.grow_cells.Goals as goal
 
 pub loop-cell-preserved : goal.loop-cell-preserved
 loop-cell-preserved c =

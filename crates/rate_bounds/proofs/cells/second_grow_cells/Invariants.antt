@@ -1,6 +1,6 @@
 use Rattle.std.proofs.Common.{◌≡◌}
 use Rattle.model_specs.specs.Ledgers.{grow_cells, second_grow_cells}
-use Rattle.rate_bounds.proofs.ledger.second_grow_cells.Given as goal
+use Rattle.rate_bounds.proofs.cells.second_grow_cells.Given as goal
 
 -- the radii after the cells so far
 abbrev pub invariant-loop-cell : goal.invariant-loop-cell
