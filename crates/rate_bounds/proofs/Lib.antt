@@ -1,0 +1,16 @@
+pub mod BoundSteps
+pub mod CellSteps
+pub mod DatedRadii
+pub mod FirstBroken
+pub mod FirstMonths
+pub mod LeastAndGreatest
+pub mod LumpSteps
+pub mod MonthRules
+pub mod NaturalRates
+pub mod PaySteps
+pub mod RadiusSteps
+pub mod RateSteps
+pub mod SecondSteps
+pub mod SmallGrowth
+pub mod SumSizes
+pub mod TableSteps

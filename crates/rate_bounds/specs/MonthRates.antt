@@ -1,0 +1,29 @@
+-- The intensities of a month, as natural numbers over 2488320 den a year.
+use Rattle.std.specs.Prelude.{ℕ, ℤ, List, length, map, sum}
+use Rattle.model_specs.specs.Whole.{list_of, greatest_natural, least_whole, natural_part}
+use Rattle.model_specs.specs.Product.{Product, transition_at}
+use Rattle.model_specs.specs.MonthNumbers.{curve_numerators, greatest_rate, exits}
+
+-- the greatest rate of a transition, and 0 where it is below 0
+unfoldable pub rate_part : Product → ℕ → ℕ → ℕ
+rate_part product month e = natural_part (greatest_rate product e month)
+
+-- the sum of these over some transitions
+unfoldable pub rate_sum : Product → ℕ → List ℕ → ℕ
+rate_sum product month transitions = sum (map (rate_part product month) transitions)
+
+-- the sum of these over the exits of a state
+unfoldable pub exit_sum : Product → ℕ → ℕ → ℕ
+exit_sum product month i = rate_sum product month (exits product i)
+
+-- the greatest of these sums
+unfoldable pub greatest_exit_sum : Product → ℕ → ℕ
+greatest_exit_sum product month = greatest_natural (list_of (length product.states) (exit_sum product month))
+
+-- the least Bernstein coefficient of the intensity of a transition
+unfoldable pub least_of : Product → ℕ → ℕ → ℤ
+least_of product month e = least_whole (curve_numerators (transition_at product e).rate month)
+
+-- the least Bernstein coefficient of all intensities, and 0 where there is no transition
+unfoldable pub least_rate : Product → ℕ → ℤ
+least_rate product month = least_whole (list_of (length product.transitions) (least_of product month))
