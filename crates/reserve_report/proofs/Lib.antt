@@ -1,3 +1,4 @@
 pub mod Parts
 pub mod RowLines
+pub mod SmallRadii
 pub mod TwoLines

@@ -9,7 +9,9 @@ ghost use Rattle.reserve_report.specs.Limits.{AreLimits};
 use crate::decimal::{push_decimal, push_size};
 use crate::limits::Limits;
 use ledger_bounds::{tolerance_first, tolerance_second, tolerance_variance};
+use payment_plan::Which;
 use product_model::Product;
+use rate_bounds::Admitted;
 use std::alloc::{AllocError, Global};
 
 // Appends a word and a number in decimal.
@@ -164,12 +166,8 @@ fn push_pattern(
     Ok(())
 }
 
-/// The text of `check` for a product with these limits.
-pub(crate) fn limits_text(
-    alloc: Global,
-    product: &Product,
-    limits: &Limits,
-) -> Result<Vec<u8>, AllocError>
+// The text of `check` for a product with these limits.
+fn limits_text(alloc: Global, product: &Product, limits: &Limits) -> Result<Vec<u8>, AllocError>
     requires { AreLimits product.now limits.now }
     ensures { IfOk result (λ text. text.items ≡ check_text product.now) }
 {
@@ -182,4 +180,25 @@ pub(crate) fn limits_text(
     push_second(alloc, &mut text, product, limits)?;
     push_pattern(alloc, &mut text, product, limits)?;
     Ok(text)
+}
+
+// The limits of an admitted product.
+fn limits_of(admitted: &Admitted) -> Limits
+    ensures { AreLimits admitted.now result }
+{
+    Limits {
+        scale: admitted.scale(Which::Benefits),
+        bound1024: admitted.bound1024(Which::Benefits),
+        radius: admitted.radius(0),
+        radius_forward: admitted.radius_forward(admitted.product().months()),
+        radius_second: admitted.radius_second(0),
+        pattern_scale: admitted.scale(Which::Pattern),
+    }
+}
+
+/// The text of `check`: how exact each answer about the product will be.
+pub fn check_bytes(alloc: Global, admitted: &Admitted) -> Result<Vec<u8>, AllocError>
+    ensures { IfOk result (λ text. text.items ≡ check_text admitted.now) }
+{
+    limits_text(alloc, admitted.product(), &limits_of(admitted))
 }

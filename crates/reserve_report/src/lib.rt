@@ -7,6 +7,7 @@ mod limits;
 mod report;
 mod report_text;
 
+pub use check_text::check_bytes;
 pub use decimal::push_decimal;
 pub use report::{Kind, Report, Row, What};
 pub use report_text::report_bytes;
