@@ -1,22 +1,13 @@
 //! Values life insurance contracts that are Markov chains, each number as an interval that is proved to hold it.
 #![tactic(auto)]
 
-mod cell;
-mod decimal;
-mod enclosure;
 mod end;
-mod laws;
-mod ledger;
+mod file;
 mod pieces;
 mod plan;
-mod report;
-mod report_text;
+mod question;
 mod run;
-mod sweep;
-#[cfg(test)]
-mod tests;
 mod valuation;
-mod words;
 
 use io_ports::{FileShelf, StdSink};
 use run::run;

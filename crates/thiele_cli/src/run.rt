@@ -14,29 +14,85 @@ use crate::pieces::write_pieces;
 use crate::plan::command_plan;
 use command_words::read_words;
 use io_ports::{Shelf, Sink};
-use reserve_report::Report;
 use std::alloc::Global;
 
 /// The line for words without a reading.
 const BAD_WORDS: &[u8] = b"refused words\n";
 
-/// Writes the text and answers the end, or the fault of the sink.
-fn finish<K: Sink>(sink: &mut K, end: End, report: Option<Report>, text: &[u8]) -> Finish
+/// The top call: reads the words, fetches and reads the file that they name, and writes what they ask for, or the line
+/// that refuses it. All memory is taken before the first byte is written.
+pub fn run<H: Shelf, K: Sink>(
+    alloc: Global,
+    words: &[String],
+    shelf: &mut H,
+    sink: &mut K,
+) -> Finish
     ensures status { result.status ≡ status_of result.end }
-    ensures end { (result.end ≡ end) ⊎ (result.end ≡ End.WriteFault) }
-    ensures report { result.report ≡ report }
-    ensures written { (result.end ≢ End.WriteFault) → Appends (K.written sink.old) (K.written sink.new) text.now }
+
+    // What was written, and that the report is right: the headline.
+    ensures written { Writes (H.files shelf.old) (words_of words.now) result.end result.report
+        (K.written sink.old) (K.written sink.new) }
+
+    // When each end comes, and that it comes wherever its case is known.
+    ensures done { ComesBy (H.files shelf.old) (words_of words.now) (H.failed shelf.old) (H.failed shelf.new) result.end End.Done }
+    ensures bad_words { ComesBy (H.files shelf.old) (words_of words.now) (H.failed shelf.old) (H.failed shelf.new) result.end End.BadWords }
+    ensures not_built { ComesBy (H.files shelf.old) (words_of words.now) (H.failed shelf.old) (H.failed shelf.new) result.end End.NotBuilt }
+    ensures not_toml { ComesBy (H.files shelf.old) (words_of words.now) (H.failed shelf.old) (H.failed shelf.new) result.end End.NotToml }
+    ensures too_long { (seen : ℕ) →
+        ComesBy (H.files shelf.old) (words_of words.now) (H.failed shelf.old) (H.failed shelf.new) result.end (End.TooLong seen) }
+    ensures rule { (found : RuleBreak) →
+        ComesBy (H.files shelf.old) (words_of words.now) (H.failed shelf.old) (H.failed shelf.new) result.end (End.Rule found) }
+
+    // Words without a reading, and commands that are not built, need no file; the first take no memory either.
+    ensures no_reading { ¬ HaveReading (words_of words.now) → (result.end ≡ End.BadWords) ⊎ (result.end ≡ End.WriteFault) }
+    ensures unbuilt { (request : Request) → AreReadAs (words_of words.now) request → IsUnbuilt request →
+        (result.end ≡ End.NotBuilt) ⊎ (result.end ≡ End.Memory) ⊎ (result.end ≡ End.WriteFault) }
+
+    // A fetch fault comes exactly where the list of failed names grew, and it grew by the word FILE.
+    ensures failed { H.failed shelf.new ≡ H.failed shelf.old ++ failed_name result.end (words_of words.now) }
+
+    // A fault of the sink comes only where its count rose, and no other end leaves it changed.
+    ensures write_fault { result.end ≡ End.WriteFault → Rose (K.faults sink.old) (K.faults sink.new) }
+    ensures no_write_fault { result.end ≢ End.WriteFault → K.faults sink.new ≡ K.faults sink.old }
+
+    // A valued file that is told has a report, and with no fault it is written, but for want of memory.
+    ensures reported { (product : Product) → IsCase (H.files shelf.old) (words_of words.now) (case.Valued product) →
+        IsSome (H.files shelf.old) → result.end ≡ End.WriteFault → IsSome result.report }
+    ensures complete { (product : Product) → IsCase (H.files shelf.old) (words_of words.now) (case.Checked product)
+        ⊎ IsCase (H.files shelf.old) (words_of words.now) (case.Valued product) →
+        IsSome (H.files shelf.old) → H.failed shelf.new ≡ H.failed shelf.old →
+        ¬ Rose (K.faults sink.old) (K.faults sink.new) → (result.end ≡ End.Done) ⊎ (result.end ≡ End.Memory) }
+
+    ensures files { H.files shelf.new ≡ H.files shelf.old }
 {
-    match write_pieces(sink, text) {
-        Ok(()) => Finish {
+    let Some(command) = read_words(words) else {
+        let end = match write_pieces(sink, BAD_WORDS) {
+            Ok(()) => End::BadWords,
+            Err(_) => End::WriteFault,
+        };
+        return Finish {
             status: end.status(),
             end,
-            report,
-        },
-        Err(_) => Finish {
-            status: End::WriteFault.status(),
-            end: End::WriteFault,
-            report,
-        },
+            report: None,
+        };
+    };
+    let plan = match command_plan(alloc, command, shelf) {
+        Ok(plan) => plan,
+        Err(_) => {
+            return Finish {
+                status: End::Memory.status(),
+                end: End::Memory,
+                report: None,
+            };
+        }
+    };
+    let end = match write_pieces(sink, &plan.text) {
+        Ok(()) => plan.end,
+        Err(_) => End::WriteFault,
+    };
+    Finish {
+        status: end.status(),
+        end,
+        report: plan.report,
     }
 }
