@@ -1,0 +1,14 @@
+pub mod BeforeTerm
+pub mod BoundFacts
+pub mod Extremes
+pub mod Found
+pub mod GrowthFacts
+pub mod HeldSteps
+pub mod Loads
+pub mod LongestLedgers
+pub mod MonthFacts
+pub mod PaymentFacts
+pub mod PlanBounds
+pub mod Rounding
+pub mod SecondFacts
+pub mod SecondSteps
