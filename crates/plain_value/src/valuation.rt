@@ -91,8 +91,8 @@ fn swept_value<L: Ledger>(
     })
 }
 
-/// The value of a plain product just before issue, from its numbers. It fails only for want of memory, which is taken for
-/// the equation and the step of one cell, however long the term.
+/// The value of a plain product just before issue, from its numbers. It fails only for want of memory, which is taken
+/// for the equation and the step of one cell, however long the term.
 pub fn value(alloc: Global, product: &Product, plain: Plain) -> Result<Valued, AllocError>
     requires { ArePlainNumbers product.now plain }
     ensures value { IfOk result (IsValueOf product.now) }
