@@ -1,6 +1,6 @@
 -- A plan that pays a constant rate in its one state obeys the rules of payments. The tests value such plans.
-use Rattle.std.specs.Prelude.{◌≡◌, ℕ, zero, suc, ◌*◌, ◌^◌, ◌≤◌, ◌<◌, ℤ, pos, ◌*ℤ◌, unsigned_abs, All, length, List, [], ◌∷◌, Vec}
-use Rattle.std.specs.Prelude.{slice_index}
+use Rattle.std.specs.Prelude.{◌≡◌, ℕ, zero, suc, ◌*◌, ◌^◌, ◌≤◌, ◌<◌, ℤ, pos, ◌*ℤ◌, unsigned_abs}
+use Rattle.std.specs.Prelude.{All, length, List, [], ◌∷◌, Vec, slice_index}
 use Rattle.std.specs.declared.alloc.Global.{Global}
 use Rattle.std.proofs.Common.{refl, arith, subst, sym}
 use Rattle.std.proofs.lemmas.Int.{ints}

@@ -12,10 +12,10 @@ use fixed_num::from_fraction;
 use linear_system::CellSystem;
 use std::alloc::{AllocError, Global};
 
-/// The cells of a year.
+// The cells of a year.
 const CELLS_OF_YEAR: i128 = 384;
 
-/// What the interest takes from a value over a cell, in units of 2^-64, rounded down.
+// What the interest takes from a value over a cell, in units of 2^-64, rounded down.
 fn interest_number(force: i64, den: i64) -> i128
     requires some_den { pos 1 ≤ℤ den }
     requires natural { pos 0 ≤ℤ force }
@@ -26,7 +26,7 @@ fn interest_number(force: i64, den: i64) -> i128
     from_fraction(-i128::from(force), CELLS_OF_YEAR * i128::from(den)).0
 }
 
-/// The payment of a cell at the scale, in units of 2^-64, rounded down, for a rate in minor units per year.
+// The payment of a cell at the scale, in units of 2^-64, rounded down, for a rate in minor units per year.
 fn payment_number(rate: i64, scale: u32) -> i128
     requires scale { scale ≤ 56 }
     requires within { unsigned_abs rate ≤ 6 * 2 ^ scale }
@@ -36,7 +36,7 @@ fn payment_number(rate: i64, scale: u32) -> i128
     from_fraction(i128::from(rate), CELLS_OF_YEAR * 2i128.pow(scale)).0
 }
 
-/// The equation of every cell, with values divided by 2^scale.
+// The equation of every cell, with values divided by 2^scale.
 pub(crate) fn cell_system(alloc: Global, plain: Plain, scale: u32) -> Result<CellSystem, AllocError>
     requires ranges { HasRanges (plain_product_of plain) }
     requires scale { scale ≤ 56 }

@@ -9,8 +9,8 @@ ghost use Rattle.plain_value.specs.PlainNumbers.{plain_product_of};
 use crate::plain::Plain;
 use ledger_bounds::grow;
 
-/// The growth of a cell in units of 2^-40: `ceil(9 * phi^2 / 2^44)` with `phi = ceil(2^40 * 6 i / 768)` for the yearly
-/// interest i, which is not negative.
+// The growth of a cell in units of 2^-40: `ceil(9 * phi^2 / 2^44)` with `phi = ceil(2^40 * 6 i / 768)` for the yearly
+// interest i, which is not negative.
 pub(crate) fn kappa40(plain: Plain) -> u64
     requires { HasRanges (plain_product_of plain) }
     ensures value { result ≡ formula.kappa40 (plain_product_of plain) }
@@ -21,7 +21,7 @@ pub(crate) fn kappa40(plain: Plain) -> u64
     (9 * phi40 * phi40).div_ceil(1 << 44) as u64
 }
 
-/// The payment of a cell, `ceil(1024 * |rate| / 192)` in 1/1024 minor units, for a rate in minor units per year.
+// The payment of a cell, `ceil(1024 * |rate| / 192)` in 1/1024 minor units, for a rate in minor units per year.
 pub(crate) fn pay1024(rate: i64) -> u128
     requires { unsigned_abs rate ≤ 10 ^ 12 }
     ensures value { result ≡ rate_pay1024 rate }
@@ -30,7 +30,7 @@ pub(crate) fn pay1024(rate: i64) -> u128
     (1024 * u128::from(rate.unsigned_abs())).div_ceil(192)
 }
 
-/// A ledger that starts with 0 at the term, and grows and adds the same in each cell, after that many cells.
+// A ledger that starts with 0 at the term, and grows and adds the same in each cell, after that many cells.
 pub(crate) fn ledger(kappa40: u64, add: u128, cells: u32) -> u128
     requires growth { kappa40 ≤ 2 ^ 22 }
     requires add { add ≤ 2 ^ 43 }

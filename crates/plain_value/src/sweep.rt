@@ -16,10 +16,10 @@ use std::alloc::{AllocError, Global};
 use std::sync::ledger::Ledger;
 use taylor_step::{Steps, Work, step};
 
-/// The cells of a month.
+// The cells of a month.
 pub(crate) const CELLS_OF_MONTH: u32 = 32;
 
-/// Goes from the term to issue, with a Taylor step for each cell.
+// Goes from the term to issue, with a Taylor step for each cell.
 fn sweep<L: Ledger>(
     plain: Plain,
     system: &CellSystem,
@@ -42,7 +42,7 @@ fn sweep<L: Ledger>(
     }
 }
 
-/// The value at issue, in units of 2^-64 at the product's scale: swept from the term.
+// The value at issue, in units of 2^-64 at the product's scale: swept from the term.
 pub(crate) fn midpoint<L: Ledger>(
     alloc: Global,
     plain: Plain,

@@ -18,10 +18,10 @@ use std::marker::Brand;
 use std::sync::ledger::{Blank, Ledger};
 use taylor_step::Steps;
 
-/// What each cell adds to the radius, in units of 2^-64: more than a step rounds.
+// What each cell adds to the radius, in units of 2^-64: more than a step rounds.
 const STEP_RADIUS: u128 = 1024;
 
-/// The degree of the Taylor steps.
+// The degree of the Taylor steps.
 const DEGREE: u8 = 24;
 
 /// The value of a product just before issue.
@@ -39,14 +39,14 @@ pub struct Valued {
     pub degree: u8,
 }
 
-/// The scale and the radius of a product at issue.
+// The scale and the radius of a product at issue.
 #[derive(Clone, Copy)]
 struct Ledgers {
     scale: u32,
     radius: u128,
 }
 
-/// The ledgers from the term to issue.
+// The ledgers from the term to issue.
 fn ledgers_of(plain: Plain) -> Ledgers
     requires { HasRanges (plain_product_of plain) }
     ensures scale { result.scale ≡ formula.scale (plain_product_of plain) }
@@ -63,7 +63,7 @@ fn ledgers_of(plain: Plain) -> Ledgers
     }
 }
 
-/// The value by these ledgers, from a sweep that counts its steps.
+// The value by these ledgers, from a sweep that counts its steps.
 fn swept_value<L: Ledger>(
     alloc: Global,
     plain: Plain,
@@ -91,8 +91,8 @@ fn swept_value<L: Ledger>(
     })
 }
 
-/// The value of a plain product from its numbers: what is paid after issue, discounted to issue. It fails only for want
-/// of memory, of which the cells take the same for every term.
+/// The value of a plain product just before issue, from its numbers. It fails only for want of memory, which is taken
+/// for the equation and the step of one cell, however long the term.
 pub fn value(alloc: Global, product: &Product, plain: Plain) -> Result<Valued, AllocError>
     requires { ArePlainNumbers product.now plain }
     ensures value { IfOk result (IsValueOf product.now) }

@@ -5,10 +5,11 @@ use Rattle.plain_laws.specs.PlainSystem.{IsMidpoint}
 use Rattle.plain_value.proofs.sweep.sweep.Given as goal
 
 abbrev pub invariant-loop-cell : goal.invariant-loop-cell
-invariant-loop-cell g l = record {
-  one : length l.mid ≡ 1;
-  work : l.work ≡ 1;
-  count : l.steps ≤ 2 ^ 62 + l._cell;
-  held : IsMidpoint (plain_product_of l.fn.plain) (scale (plain_product_of l.fn.plain)) l._cell (slice_index_or l.mid 0 (pos 0))
-      (ledger_after (kappa40 (plain_product_of l.fn.plain)) 1024 l._cell);
-}
+invariant-loop-cell g l =
+    let p = plain_product_of l.fn.plain in
+    record {
+      one : length l.mid ≡ 1;
+      work : l.work ≡ 1;
+      count : l.steps ≤ 2 ^ 62 + l._cell;
+      held : IsMidpoint p (scale p) l._cell (slice_index_or l.mid 0 (pos 0)) (ledger_after (kappa40 p) 1024 l._cell);
+    }
