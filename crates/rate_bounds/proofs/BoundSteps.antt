@@ -1,5 +1,5 @@
 -- The bound ledger, month by month.
-use Rattle.std.proofs.Common.{◌≡◌, ℕ, suc, ◌+◌, ◌-◌, ◌*◌, ◌^◌, ◌<◌, ◌≤◌, arith, refl, ap, sym, ◌∙◌, add-one}
+use Rattle.std.proofs.Common.{◌≡◌, ℕ, suc, ◌+◌, ◌-◌, ◌*◌, ◌^◌, ◌<◌, ◌≤◌, arith, ap, sym, ◌∙◌, add-one}
 use Rattle.std.proofs.Common.{Fits}
 use Rattle.std.specs.Int.{w128}
 use Rattle.model_specs.specs.Product.{Product}

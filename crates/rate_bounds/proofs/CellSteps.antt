@@ -1,5 +1,5 @@
 -- Ledgers after one cell more, and lists of one date more.
-use Rattle.std.proofs.Common.{◌≡◌, ℕ, suc, ◌+◌, ◌*◌, ◌^◌, ◌<◌, ◌≤◌, List, [], ◌∷◌, ◌++◌, arith, refl, ap, sym, ◌∙◌, add-one}
+use Rattle.std.proofs.Common.{◌≡◌, ℕ, suc, ◌+◌, ◌*◌, List, [], ◌∷◌, ◌++◌, ap, sym, ◌∙◌, add-one}
 use Rattle.std.specs.Int.{div_ceil}
 use Rattle.frac_laws.specs.Ledger.{grow}
 use Rattle.model_specs.specs.Whole.{list_of}

@@ -1,5 +1,5 @@
 -- Lists of numbers by dates.
-use Rattle.std.proofs.Common.{◌≡◌, ℕ, suc, ◌+◌, ◌-◌, ◌^◌, ◌<◌, ◌≤◌, List, length, get_or, arith, ap, ◌∙◌}
+use Rattle.std.proofs.Common.{◌≡◌, ℕ, ◌<◌, List, length, get_or, arith, ap, ◌∙◌}
 use Rattle.model_specs.specs.Whole.{list_of}
 use Rattle.model_specs.proofs.ListsByPlace.{at-list_of, length-list_of}
 

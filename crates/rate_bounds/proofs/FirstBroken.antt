@@ -50,7 +50,7 @@ pub months_obey : (p : Product) → None ≡ broken_by_month p → ObeysAllMonth
 unfolding broken_by_month
 months_obey p none month inside =
     let all = none_of_three (broken_in_months p 15 (obeys_rule_15 p)) (broken_in_months p 16 (obeys_rule_16 p))
-        (broken_in_months p 17 (obeys_rule_17 p)) none in
+    (broken_in_months p 17 (obeys_rule_17 p)) none in
     record {
       interest = none_breaks (obeys_rule_15 p) p.months (not_breaking p 15 (obeys_rule_15 p) all.0) month inside;
       rates = none_breaks (obeys_rule_16 p) p.months (not_breaking p 16 (obeys_rule_16 p) all.1) month inside;

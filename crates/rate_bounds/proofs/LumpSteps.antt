@@ -1,5 +1,5 @@
 -- The greatest size of one lump more.
-use Rattle.std.proofs.Common.{◌≡◌, ℕ, ℤ, ◌+◌, ◌<◌, List, [], ◌∷◌, ◌++◌, arith, ap, sym, ◌∙◌, get_or, max, take, length}
+use Rattle.std.proofs.Common.{◌≡◌, ℕ, ℤ, ◌+◌, ◌<◌, List, [], ◌∷◌, arith, ap, ◌∙◌, get_or, max, take, length}
 use Rattle.std.specs.Prelude.{map, unsigned_abs}
 use Rattle.std.proofs.lemmas.List.{take_more, map-append}
 use Rattle.model_specs.specs.Whole.{greatest_natural}
@@ -14,7 +14,7 @@ pub greatest_of_more : (lumps : List (ℕ × ℤ)) (i : ℕ) (d : ℕ × ℤ) (m
     → next ≡ max x most → next ≡ greatest_natural (map lump_size (take (i + 1) lumps))
 greatest_of_more lumps i d most x next inside sofar here is =
     let more : greatest_natural (map lump_size (take (i + 1) lumps))
-        ≡ max (greatest_natural (map lump_size (take i lumps))) (lump_size (get_or lumps i d)) =
+    ≡ max (greatest_natural (map lump_size (take i lumps))) (lump_size (get_or lumps i d)) =
     ap (λ xs. greatest_natural (map lump_size xs)) (take_more lumps i d inside)
     ∙ ap greatest_natural (map-append lump_size (take i lumps) (get_or lumps i d ∷ []))
     ∙ greatest_natural-push (map lump_size (take i lumps)) (lump_size (get_or lumps i d)) in

@@ -1,18 +1,18 @@
 -- Rules 15 to 17 of a month, from the greatest and the least of its numbers.
-use Rattle.std.proofs.Common.{◌≡◌, ℕ, zero, suc, ◌+◌, ◌*◌, ◌^◌, ◌<◌, ◌≤◌, ℤ, pos, negsuc, neg_ℤ, ◌*ℤ◌, ◌-ℤ◌, ◌≤ℤ◌, FitsSigned, List, [], ◌∷◌}
+use Rattle.std.proofs.Common.{◌≡◌, ℕ, ◌^◌, ℤ, pos, neg_ℤ, ◌*ℤ◌, ◌-ℤ◌, ◌≤ℤ◌, FitsSigned, List, [], ◌∷◌}
 use Rattle.std.proofs.Common.{Bool, true, false, arith, refl, ap, sym, ◌∙◌, length}
 use Rattle.std.specs.Prelude.{int_le, ◌&&◌, map, slice_index_or}
 use Rattle.std.specs.List.{list_all}
 use Rattle.std.specs.Int.{int_max, int_min, w128}
 use Rattle.std.proofs.lemmas.Int.{ints}
 use Rattle.std.proofs.lemmas.List.Folds.{list_all-map}
-use Rattle.model_specs.specs.Whole.{list_of, greatest_whole, least_whole}
+use Rattle.model_specs.specs.Whole.{greatest_whole, least_whole}
 use Rattle.model_specs.specs.Product.{Product, Transition, no_transition}
 use Rattle.model_specs.specs.MonthNumbers.{curve_numerators, month_unit}
-use Rattle.model_specs.specs.ValuationRules.{obeys_rule_15, obeys_rule_16, obeys_rule_17}
+use Rattle.model_specs.specs.ValuationRules.{obeys_rule_15, obeys_rule_16}
 use Rattle.product_model.proofs.PlacedLists.{map-list_of, list_of_places}
 use Rattle.rate_bounds.specs.MonthRates.{least_of, least_rate}
-use Rattle.rate_bounds.proofs.LeastAndGreatest.{GoesByLeast, GoesByGreatest, all_by_least, all_by_greatest, list_all-both}
+use Rattle.rate_bounds.proofs.LeastAndGreatest.{all_by_least, all_by_greatest, list_all-both}
 
 lowest_of_two : (unit : ℕ) (a b : ℤ) → int_le (neg_ℤ (pos unit)) (pos 50 *ℤ int_min a b)
     ≡ (int_le (neg_ℤ (pos unit)) (pos 50 *ℤ a) && int_le (neg_ℤ (pos unit)) (pos 50 *ℤ b))

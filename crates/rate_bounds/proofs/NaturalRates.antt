@@ -1,6 +1,6 @@
 -- Where rule 16 holds, the rates are natural numbers, and so is the greatest sum of them.
-use Rattle.std.proofs.Common.{◌≡◌, ℕ, zero, suc, ◌+◌, ◌*◌, ◌^◌, ◌<◌, ◌≤◌, ℤ, pos, negsuc, ◌+ℤ◌, ◌≤ℤ◌, List, [], ◌∷◌}
-use Rattle.std.proofs.Common.{Bool, true, false, arith, refl, ap, sym, ◌∙◌, length, max, min, sum, leb, subst}
+use Rattle.std.proofs.Common.{◌≡◌, ℕ, zero, suc, ◌*◌, ◌^◌, ◌<◌, ℤ, pos, negsuc, ◌+ℤ◌, List, [], ◌∷◌}
+use Rattle.std.proofs.Common.{Bool, true, false, arith, refl, ap, sym, ◌∙◌, length, max, min, sum, leb}
 use Rattle.std.specs.Prelude.{int_le, ◌&&◌, map, slice_index_or, All, ◌==◌}
 use Rattle.std.specs.List.{list_all}
 use Rattle.std.specs.Int.{int_max, int_min}
@@ -8,7 +8,7 @@ use Rattle.std.proofs.lemmas.Int.{ints}
 use Rattle.std.proofs.lemmas.List.Sums.{sum_by-cons}
 use Rattle.std.proofs.lemmas.List.Elements.{All-filter, All-from_get_or, All-head, All-tail}
 use Rattle.model_specs.specs.Whole.{list_of, places, greatest_whole, greatest_natural, natural_part, whole_sum}
-use Rattle.model_specs.specs.Product.{Product, Transition, transition_at, no_transition}
+use Rattle.model_specs.specs.Product.{Product, transition_at, no_transition}
 use Rattle.model_specs.specs.MonthNumbers.{curve_numerators, month_unit, greatest_rate, exits, rho}
 use Rattle.model_specs.specs.ValuationRules.{obeys_rule_16, obeys_rule_17}
 use Rattle.model_specs.proofs.ListsByPlace.{at-list_of, length-list_of}

@@ -1,10 +1,10 @@
 -- What exits and states pay, one more of them each time, and how little it is.
-use Rattle.std.proofs.Common.{◌≡◌, ℕ, zero, suc, ◌+◌, ◌*◌, ◌^◌, ◌<◌, ◌≤◌, pos, List, [], ◌∷◌, ◌++◌, Bool, true, false}
+use Rattle.std.proofs.Common.{◌≡◌, ℕ, ◌+◌, ◌*◌, ◌^◌, ◌<◌, ◌≤◌, List, [], ◌∷◌, ◌++◌, Bool, true, false}
 use Rattle.std.proofs.Common.{arith, refl, ap, sym, ◌∙◌, get_or, max, take, drop, length, sum}
 use Rattle.std.specs.Prelude.{map, ◌==◌}
 use Rattle.std.specs.Int.{div_ceil}
 use Rattle.std.proofs.lemmas.List.{take_more, map-append, take-append-drop}
-use Rattle.std.proofs.lemmas.List.Sums.{sum_by_push, sum_by-append}
+use Rattle.std.proofs.lemmas.List.Sums.{sum_by-append}
 use Rattle.model_specs.specs.Whole.{list_of, greatest_natural}
 use Rattle.model_specs.specs.Product.{Product, Step}
 use Rattle.model_specs.specs.Payments.{Plan, constant_step, sojourn_at, sum_at}
@@ -103,8 +103,8 @@ some_exits_pay : (p : Product) (plan : Plan) (m : ℕ) (exits : List Edge) (i : 
     → exits_pay p plan m (map (λ x. x.transition) (take i exits)) ≤ exits_pay p plan m (map (λ x. x.transition) exits)
 some_exits_pay p plan m exits i =
     let parts : exits_pay p plan m (map (λ x. x.transition) exits)
-        ≡ exits_pay p plan m (map (λ x. x.transition) (take i exits))
-        + exits_pay p plan m (map (λ x. x.transition) (drop i exits)) =
+    ≡ exits_pay p plan m (map (λ x. x.transition) (take i exits))
+    + exits_pay p plan m (map (λ x. x.transition) (drop i exits)) =
     ap (λ xs. exits_pay p plan m (map (λ x. x.transition) xs)) (sym (take-append-drop i exits))
     ∙ ap (exits_pay p plan m) (map-append (λ x. x.transition) (take i exits) (drop i exits))
     ∙ exits_pay-append p plan m (map (λ x. x.transition) (take i exits)) (map (λ x. x.transition) (drop i exits)) in
@@ -125,8 +125,11 @@ pub exits_pay_fits : (p : Product) (plan : Plan) (m : ℕ) (exits : List Edge) (
     → rate ≡ rate_part p m (get_or exits i d).transition → load ≡ sum_load plan m (get_or exits i d).transition
     → exits_pay p plan m (map (λ x. x.transition) exits) < 2 ^ 127 → paid + rate * load < 2 ^ 127
 exits_pay_fits p plan m exits i d paid rate load inside sofar h k fits =
-    omega (arith, exits_pay_step p plan m exits i d paid rate load inside sofar h k,
-    some_exits_pay p plan m exits (i + 1))
+    omega (
+      arith,
+      exits_pay_step p plan m exits i d paid rate load inside sofar h k,
+      some_exits_pay p plan m exits (i + 1),
+    )
 
 -- what a state pays, by its parts
 pub paid_in_parts : (p : Product) (plan : Plan) (m i sojourn unit exits-paid : ℕ) → sojourn ≡ sojourn_load plan m i

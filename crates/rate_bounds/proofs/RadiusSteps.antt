@@ -1,5 +1,5 @@
 -- The radii, month by month.
-use Rattle.std.proofs.Common.{◌≡◌, ℕ, suc, ◌+◌, ◌-◌, ◌*◌, ◌^◌, ◌<◌, ◌≤◌, arith, refl, ap, sym, ◌∙◌, add-one}
+use Rattle.std.proofs.Common.{◌≡◌, ℕ, suc, ◌+◌, ◌-◌, ◌^◌, ◌<◌, ◌≤◌, arith, refl, ap, sym, ◌∙◌, add-one}
 use Rattle.std.proofs.Common.{List, length, get_or}
 use Rattle.model_specs.specs.Whole.{list_of}
 use Rattle.model_specs.specs.Product.{Product}

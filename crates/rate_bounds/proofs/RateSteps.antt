@@ -1,12 +1,12 @@
 -- Sums of rates, exit by exit and state by state.
-use Rattle.std.proofs.Common.{◌≡◌, ℕ, ◌+◌, ◌^◌, ◌<◌, List, [], ◌∷◌, ◌++◌, arith, refl, ap, sym, ◌∙◌, get_or, max, min, take, length, sum}
+use Rattle.std.proofs.Common.{◌≡◌, ℕ, ◌+◌, ◌<◌, List, [], ◌∷◌, ◌++◌, arith, ap, ◌∙◌, get_or, max, min, take, length, sum}
 use Rattle.std.specs.Prelude.{map}
 use Rattle.std.proofs.lemmas.List.{take_more, map-append}
 use Rattle.std.proofs.lemmas.List.Sums.{sum_by_push}
 use Rattle.model_specs.specs.Whole.{list_of, greatest_natural}
 use Rattle.model_specs.specs.Product.{Product}
 use Rattle.state_graph.specs.declared.exits.Edge.{Edge}
-use Rattle.rate_bounds.specs.MonthRates.{rate_part, rate_sum, exit_sum}
+use Rattle.rate_bounds.specs.MonthRates.{rate_part, rate_sum}
 use Rattle.rate_bounds.proofs.LeastAndGreatest.{greatest_natural_more}
 
 sum-push : (xs : List ℕ) (x : ℕ) → sum (xs ++ x ∷ []) ≡ sum xs + x

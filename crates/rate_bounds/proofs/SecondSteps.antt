@@ -1,5 +1,5 @@
 -- The second radius, month by month.
-use Rattle.std.proofs.Common.{◌≡◌, ℕ, ℤ, suc, ◌+◌, ◌-◌, ◌*◌, ◌^◌, ◌<◌, ◌≤◌, List, length, arith, refl, ap, sym, ◌∙◌, add-one}
+use Rattle.std.proofs.Common.{◌≡◌, ℕ, ℤ, suc, ◌+◌, ◌-◌, ◌*◌, ◌^◌, ◌<◌, ◌≤◌, List, length, arith, ap, sym, ◌∙◌, add-one}
 use Rattle.std.specs.Prelude.{map, unsigned_abs}
 use Rattle.model_specs.specs.Whole.{greatest_natural}
 use Rattle.model_specs.specs.Product.{Product}

@@ -1,15 +1,13 @@
 -- The growth of a month in which rules 15 to 17 hold.
 use Rattle.std.proofs.Common.{◌≡◌, ℕ, ◌+◌, ◌*◌, ◌^◌, ◌<◌, ◌≤◌, ℤ, pos, negsuc, neg_ℤ, ◌≤ℤ◌, arith, refl, ap, sym, ◌∙◌, min, zero, suc, List}
-use Rattle.std.specs.Prelude.{unsigned_abs, true, map}
+use Rattle.std.specs.Prelude.{unsigned_abs, map}
 use Rattle.std.specs.Int.{div_ceil, int_min}
 use Rattle.std.proofs.lemmas.Int.{ints}
-use Rattle.std.proofs.lemmas.Grind.{div_ceil_times}
 use Rattle.std.proofs.Math.Nat.{pow-suc, pow-zero}
 use Rattle.model_specs.specs.Whole.{natural_part, greatest_natural, least_whole}
 use Rattle.model_specs.specs.Product.{Product}
 use Rattle.model_specs.specs.MonthNumbers.{curve_numerators, month_unit, rho, iota, nu}
 use Rattle.model_specs.specs.Growth.{kappa40}
-use Rattle.model_specs.specs.ValuationRules.{obeys_rule_16}
 use Rattle.ledger_laws.specs.MonthLaws.{HasSmallNumbers, ObeysMonthRules}
 use Rattle.rate_bounds.specs.MonthRates.{greatest_exit_sum}
 use Rattle.rate_bounds.specs.declared.numbers.MonthNumbers.{MonthNumbers}
@@ -86,7 +84,7 @@ pub kappa_is_found : (p : Product) (month : ℕ) (n : MonthNumbers) → pos n.rh
 unfolding kappa_of phi_of
 kappa_is_found p month n rho_is iota_is nu_is unit_is =
     let kappa : ℕ → ℕ → ℕ → ℕ → ℕ = λ r i v u.
-        div_ceil (9 * div_ceil (2 ^ 40 * (5 * r + 6 * i)) (768 * u) ^ 2) (2 ^ 44) + div_ceil (2 ^ 40 * v) (192 * u) in
+    div_ceil (9 * div_ceil (2 ^ 40 * (5 * r + 6 * i)) (768 * u) ^ 2) (2 ^ 44) + div_ceil (2 ^ 40 * v) (192 * u) in
     ap (λ r. kappa r n.iota n.nu n.unit) (ap natural_part rho_is)
     ∙ ap (λ i. kappa (natural_part (rho p month)) i n.nu n.unit) iota_is
     ∙ ap (λ v. kappa (natural_part (rho p month)) (iota p month) v n.unit) nu_is

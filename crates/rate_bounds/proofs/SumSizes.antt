@@ -1,9 +1,9 @@
 -- The sizes of transition sums.
-use Rattle.std.proofs.Common.{◌≡◌, ℕ, zero, suc, ◌+◌, ◌<◌, List, [], ◌∷◌, Bool, true, false, arith, refl, ap, sym, ◌∙◌, length, max, pos}
+use Rattle.std.proofs.Common.{◌≡◌, ℕ, zero, suc, ◌<◌, List, [], ◌∷◌, Bool, true, false, arith, refl, ap, sym, ◌∙◌, length}
 use Rattle.std.specs.Prelude.{map, slice_index_or, if◌then◌else◌, ◌==◌}
 use Rattle.model_specs.specs.Whole.{list_of, greatest_natural}
 use Rattle.model_specs.specs.Product.{Product, Transition, Step, transition_at, no_transition}
-use Rattle.model_specs.specs.Payments.{Plan, payment_plan, pattern_plan, continuous_pattern, dated_pattern, constant_step, step_at, sum_at}
+use Rattle.model_specs.specs.Payments.{payment_plan, pattern_plan, continuous_pattern, dated_pattern, step_at}
 use Rattle.model_specs.specs.Growth.{load, sum_size, greatest_sum}
 use Rattle.product_model.proofs.PlacedLists.{map-list_of, list_of_places}
 use Rattle.ledger_laws.proofs.Loads.{load_zero}

@@ -1,5 +1,5 @@
 -- What an admitted product keeps.
-use Rattle.std.specs.Prelude.{◌≡◌, ℕ, suc, ◌^◌}
+use Rattle.std.specs.Prelude.{◌≡◌, suc, ◌^◌}
 use Rattle.model_specs.specs.Whole.{list_of}
 use Rattle.model_specs.specs.Product.{Product}
 use Rattle.model_specs.specs.Payments.{payment_plan, pattern_plan}

@@ -1,5 +1,5 @@
 -- One month of a ledger.
-use Rattle.std.specs.Prelude.{ℕ, suc, ◌+◌, ◌*◌, length, map, List}
+use Rattle.std.specs.Prelude.{ℕ, suc, ◌+◌, ◌*◌, length}
 use Rattle.model_specs.specs.Whole.{list_of, greatest_natural}
 use Rattle.model_specs.specs.Product.{Product}
 use Rattle.model_specs.specs.Payments.{Plan, lumps_at}

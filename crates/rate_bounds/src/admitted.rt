@@ -12,9 +12,10 @@ ghost use Rattle.rate_bounds.specs.Admissions.{KeepsLedgers};
 
 use crate::bounds::MonthBounds;
 use crate::ledgers::Ledgers;
-use ledger_laws::{admissible_products_obey, month_numbers_are_small, pay_is_small};
-use ledger_laws::{pattern_bound_stays_small, plan_bound_stays_small};
-use ledger_laws::{radii_stay_small, second_stays_small};
+use ledger_laws::{
+    admissible_products_obey, month_numbers_are_small, pattern_bound_stays_small, pay_is_small,
+    plan_bound_stays_small, radii_stay_small, second_stays_small,
+};
 use payment_plan::Which;
 use product_model::Product;
 use std::marker::Model;

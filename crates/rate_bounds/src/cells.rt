@@ -43,7 +43,11 @@ pub(crate) fn second_grow_cells(
     let mut second = start;
     let mut w = radius;
     for _cell in 0..cells {
-        second = grow(second, kappa40, (2 * pay1024 * w).div_ceil(CELL * largest) + CELL);
+        second = grow(
+            second,
+            kappa40,
+            (2 * pay1024 * w).div_ceil(CELL * largest) + CELL,
+        );
         w = grow(w, kappa40, CELL);
     }
     second

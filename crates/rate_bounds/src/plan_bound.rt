@@ -26,13 +26,7 @@ const UNITS: u128 = 1024;
 const CELLS: u32 = 32;
 
 // The ledger at a month's start, from its value at the end before that date's lumps.
-fn month_back(
-    p: &Product,
-    bounds: &[MonthBounds],
-    which: Which,
-    month: u32,
-    bound: u128,
-) -> u128
+fn month_back(p: &Product, bounds: &[MonthBounds], which: Which, month: u32, bound: u128) -> u128
     requires rules { ObeysAllMonths p.now }
     requires table { AreBoundsUpTo p.now p.now.months bounds.now }
     requires month { month < p.now.months }

@@ -1,4 +1,4 @@
-use Rattle.std.proofs.Common.{◌^◌, ◌<◌, arith, ◌∙◌, ap, pos}
+use Rattle.std.proofs.Common.{arith, ◌∙◌, ap, pos}
 use Rattle.std.specs.Int.{w128}
 use Rattle.std.proofs.lemmas.Int.{to_z_pos}
 use Rattle.rate_bounds.proofs.SmallGrowth.{kappa_is_found}

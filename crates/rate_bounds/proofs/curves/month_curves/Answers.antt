@@ -1,4 +1,4 @@
-use Rattle.std.proofs.Common.{◌^◌, pos, FitsSigned, arith, rules, ap, sym, ◌∙◌, min}
+use Rattle.std.proofs.Common.{◌^◌, pos, FitsSigned, arith, rules, ap, sym, ◌∙◌}
 use Rattle.std.specs.Int.{w128, int_min}
 use Rattle.std.proofs.lemmas.Int.{to_z-of_z, to_z_pos}
 use Rattle.model_specs.specs.Whole.{greatest_whole, least_whole}

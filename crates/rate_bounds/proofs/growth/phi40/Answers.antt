@@ -1,4 +1,3 @@
-use Rattle.std.proofs.Common.{◌≡◌, arith}
 use Rattle.rate_bounds.specs.Growths.{phi_of}
 use Rattle.rate_bounds.proofs.SmallGrowth.{phi_is_small}
 use Rattle.rate_bounds.proofs.growth.phi40.Goals as goal

@@ -1,5 +1,5 @@
-use Rattle.std.proofs.Common.{◌≡◌, ◌<◌, ◌+◌, ◌-◌, ◌*◌, ◌^◌, arith, ap, ◌∙◌}
-use Rattle.model_specs.specs.Ledgers.{bound_before_term, bound1024, greatest_lump}
+use Rattle.std.proofs.Common.{◌+◌, ◌-◌, ◌*◌, arith, ◌∙◌}
+use Rattle.model_specs.specs.Ledgers.{bound1024}
 use Rattle.rate_bounds.specs.MonthPay.{plan_named}
 use Rattle.rate_bounds.proofs.BoundSteps.{bound_goes, bound_is_small, bound_step_fits, bound_is_whole, whole_fits}
 use Rattle.rate_bounds.proofs.plan_bound.bound1024.Goals as goal

@@ -1,4 +1,4 @@
-use Rattle.std.proofs.Common.{◌≡◌, ◌≤◌, ◌+◌, ◌*◌, ◌^◌, arith, ◌∙◌}
+use Rattle.std.proofs.Common.{◌≤◌, ◌+◌, ◌*◌, ◌^◌, arith, ◌∙◌}
 use Rattle.rate_bounds.specs.MonthPay.{plan_named}
 use Rattle.rate_bounds.proofs.BoundSteps.{step_is, step_fits}
 use Rattle.rate_bounds.proofs.plan_bound.month_back.Goals as goal

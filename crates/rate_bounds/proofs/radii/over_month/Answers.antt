@@ -1,4 +1,4 @@
-use Rattle.std.proofs.Common.{◌∙◌, ◌^◌, ◌≤◌, arith}
+use Rattle.std.proofs.Common.{◌∙◌, ◌^◌}
 use Rattle.rate_bounds.proofs.RadiusSteps.{radius_step_is, radius_cells_fit, wider}
 use Rattle.rate_bounds.proofs.radii.over_month.Goals as goal
 

@@ -1,4 +1,4 @@
-use Rattle.std.proofs.Common.{◌≡◌, ◌+◌, ◌-◌, arith, ap, ◌∙◌}
+use Rattle.std.proofs.Common.{arith, ◌∙◌}
 use Rattle.model_specs.specs.Ledgers.{radius_forward}
 use Rattle.rate_bounds.proofs.CellSteps.{one_date_more, all_dates}
 use Rattle.rate_bounds.proofs.RadiusSteps.{radius_goes_forward, radius_forward_fits}

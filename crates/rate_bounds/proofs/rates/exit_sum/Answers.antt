@@ -1,4 +1,4 @@
-use Rattle.std.proofs.Common.{◌≡◌, ◌^◌, ap, ◌∙◌, min}
+use Rattle.std.proofs.Common.{◌^◌, ap, ◌∙◌, min}
 use Rattle.rate_bounds.specs.MonthRates.{rate_sum, exit_sum}
 use Rattle.rate_bounds.proofs.rates.exit_sum.Goals as goal
 

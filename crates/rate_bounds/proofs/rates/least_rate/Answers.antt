@@ -1,5 +1,5 @@
-use Rattle.std.proofs.Common.{◌≡◌, pos, length, FitsSigned, arith, rules, ap, sym, ◌∙◌}
-use Rattle.std.specs.Int.{w128, int_min}
+use Rattle.std.proofs.Common.{◌≡◌, length, FitsSigned, arith, rules, ap, sym, ◌∙◌}
+use Rattle.std.specs.Int.{w128}
 use Rattle.std.proofs.lemmas.Int.{to_z-of_z}
 use Rattle.model_specs.specs.Whole.{list_of, least_whole}
 use Rattle.rate_bounds.specs.MonthRates.{least_of, least_rate}

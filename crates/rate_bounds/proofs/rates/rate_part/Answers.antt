@@ -1,6 +1,6 @@
-use Rattle.std.proofs.Common.{◌≡◌, ◌^◌, ◌<◌, pos, FitsSigned, arith, rules, ap, ◌∙◌}
+use Rattle.std.proofs.Common.{◌^◌, FitsSigned, arith, rules, ap, ◌∙◌}
 use Rattle.std.specs.Prelude.{unsigned_abs}
-use Rattle.std.specs.Int.{w128, int_max}
+use Rattle.std.specs.Int.{w128}
 use Rattle.std.proofs.lemmas.Int.{to_z-of_z}
 use Rattle.model_specs.specs.Whole.{greatest_whole, natural_part}
 use Rattle.model_specs.specs.MonthNumbers.{curve_numerators}

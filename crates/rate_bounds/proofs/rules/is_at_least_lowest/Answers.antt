@@ -1,7 +1,6 @@
-use Rattle.std.proofs.Common.{◌≡◌, ◌^◌, ◌≤ℤ◌, ◌*ℤ◌, ◌-ℤ◌, pos, neg_ℤ, ℤ, FitsSigned, arith, rules, ap, sym, ◌∙◌}
-use Rattle.std.specs.Prelude.{int_le, true}
-use Rattle.std.specs.Int.{w128, int_min}
-use Rattle.std.proofs.lemmas.Int.{to_z-of_z, ints}
+use Rattle.std.proofs.Common.{◌*ℤ◌, ◌-ℤ◌, pos, FitsSigned, rules}
+use Rattle.std.specs.Int.{w128}
+use Rattle.std.proofs.lemmas.Int.{to_z-of_z}
 use Rattle.rate_bounds.proofs.MonthRules.{above_the_lowest, lowest_product_fits, minus_fits}
 use Rattle.rate_bounds.proofs.rules.is_at_least_lowest.Goals as goal
 

@@ -1,4 +1,4 @@
-use Rattle.std.proofs.Common.{◌≡◌, ◌^◌, ◌<◌, pos, FitsSigned, arith, rules, ap, sym, refl, ◌∙◌}
+use Rattle.std.proofs.Common.{FitsSigned, arith, rules, ap, refl, ◌∙◌}
 use Rattle.std.specs.Int.{w128}
 use Rattle.std.proofs.lemmas.Int.{to_z-of_z, to_z_pos}
 use Rattle.model_specs.specs.MonthNumbers.{curve_numerators}

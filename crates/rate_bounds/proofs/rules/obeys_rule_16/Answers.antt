@@ -1,4 +1,4 @@
-use Rattle.std.proofs.Common.{◌≡◌, pos, FitsSigned, rules, ap, sym, ◌∙◌}
+use Rattle.std.proofs.Common.{pos, FitsSigned, rules, ap, sym, ◌∙◌}
 use Rattle.std.specs.Prelude.{int_le}
 use Rattle.std.specs.Int.{w128}
 use Rattle.std.proofs.lemmas.Int.{to_z-of_z}

@@ -1,8 +1,8 @@
-use Rattle.std.proofs.Common.{◌≡◌, ◌≤◌, ◌+◌, ◌^◌, arith, ◌∙◌}
+use Rattle.std.proofs.Common.{◌≤◌, ◌+◌, ◌^◌, arith, ◌∙◌}
 use Rattle.model_specs.specs.Payments.{payment_plan}
 use Rattle.rate_bounds.specs.LedgerSteps.{radius_step}
 use Rattle.rate_bounds.proofs.RadiusSteps.{radius_cells_fit, no_cells}
-use Rattle.rate_bounds.proofs.SecondSteps.{AreMonth, second_step_is, second_cells_fit}
+use Rattle.rate_bounds.proofs.SecondSteps.{second_step_is, second_cells_fit}
 use Rattle.rate_bounds.proofs.second_radii.month_back.Goals as goal
 
 pub date_adds-adds-requires-clause-radius : goal.date_adds-adds-requires-clause-radius

@@ -1,4 +1,4 @@
-use Rattle.std.proofs.Common.{◌≡◌, ◌≤◌, ◌<◌, ◌-◌, ◌^◌, suc, arith, ap, sym, ◌∙◌}
+use Rattle.std.proofs.Common.{◌-◌, ◌^◌, suc, arith, ap, ◌∙◌}
 use Rattle.model_specs.specs.Ledgers.{radius, radius_before_term}
 use Rattle.rate_bounds.proofs.DatedRadii.{number_there, numbers_count, below_same}
 use Rattle.rate_bounds.proofs.admitted.Admitted.radius.Goals as goal

@@ -1,4 +1,4 @@
-use Rattle.std.proofs.Common.{◌≡◌, ◌≤◌, ◌<◌, ◌-◌, ◌^◌, suc, arith, ap, sym, ◌∙◌}
+use Rattle.std.proofs.Common.{◌-◌, ◌^◌, suc, arith, ap, ◌∙◌}
 use Rattle.model_specs.specs.Payments.{payment_plan}
 use Rattle.model_specs.specs.Ledgers.{scale, second_radius, second_before_term}
 use Rattle.rate_bounds.proofs.DatedRadii.{number_there, numbers_count, below_same}
@@ -8,7 +8,7 @@ pub index-requires : goal.index-requires
 index-requires c =
     let p = c.self.inside.product in
     let count = numbers_count (second_before_term p (payment_plan p) (2 ^ scale p (payment_plan p))) (suc p.months)
-        c.self.inside.ledgers.seconds.items c.self.invariant.ledgers.second in
+    c.self.inside.ledgers.seconds.items c.self.invariant.ledgers.second in
     omega (arith, count, c.months.ensures.value)
 
 pub returns-clause-value : goal.returns-clause-value
