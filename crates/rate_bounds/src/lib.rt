@@ -27,6 +27,3 @@ pub use admission::{AdmitError, admit};
 pub use admitted::Admitted;
 pub use bounds::{MonthBounds, month_bounds};
 pub use curves::{MonthCurves, month_curves};
-
-#[cfg(test)]
-mod tests;

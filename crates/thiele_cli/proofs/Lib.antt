@@ -1,1 +1,5 @@
+pub mod FilePlans
 pub mod Growth
+pub mod OneCase
+pub mod Settled
+pub mod ValueReports

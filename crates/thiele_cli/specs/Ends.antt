@@ -54,7 +54,7 @@ rule_line found = rule_text found.rule found.place
 abbrev pub Answers : Case → Option Report → List ℕ → Type 0
 Answers NoReading report text = Prints report text (codes "refused words\n")
 Answers Unbuilt report text = Prints report text (codes "refused unbuilt\n")
-Answers TooLong report text = Prints report text (codes "refused length 1048577\n")
+Answers TooLong report text = Prints report text (codes "refused length " ++ decimal 1048577 ++ codes "\n")
 Answers NoToml report text = Prints report text (codes "refused toml\n")
 Answers (Broken found) report text = Prints report text (rule_line found)
 Answers (Checked product) report text = Prints report text (check_text product)

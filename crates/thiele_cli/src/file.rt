@@ -19,7 +19,7 @@ pub enum Opened {
 }
 
 /// Reads the product of a file and admits it by all rules.
-pub fn opened(alloc: Global, bytes: &[u8]) -> Result<Opened, AllocError>
+pub fn open_file(alloc: Global, bytes: &[u8]) -> Result<Opened, AllocError>
     ensures { IfOk result (IsOpened bytes.now) }
 {
     let product = match read_product(alloc, bytes) {

@@ -9,7 +9,7 @@ ghost use Rattle.thiele_cli.specs.Outcome.{Settles};
 ghost use Rattle.thiele_cli.specs.Plans.{SettlesFile, SettlesValue};
 
 use crate::end::End;
-use crate::file::{Opened, opened};
+use crate::file::{Opened, open_file};
 use crate::question::Question;
 use crate::valuation::value_report;
 use command_words::Command;
@@ -41,6 +41,14 @@ fn printed(alloc: Global, end: End, line: &[u8]) -> Result<Plan, AllocError>
         report: None,
         text: line.to_vec(alloc)?,
     })
+}
+
+/// The refusal of what is not built yet.
+fn unbuilt(alloc: Global) -> Result<Plan, AllocError>
+    ensures end { IfOk result (λ plan. plan.end ≡ End.NotBuilt) }
+    ensures text { IfOk result (λ plan. Prints plan.report plan.text.items (codes "refused unbuilt\n")) }
+{
+    printed(alloc, End::NotBuilt, b"refused unbuilt\n")
 }
 
 /// The refusal by a rule.
@@ -93,7 +101,7 @@ fn value_plan(alloc: Global, admitted: &Admitted) -> Result<Plan, AllocError>
 {
     let product = admitted.product();
     let Some(plain) = plain_numbers(product) else {
-        return printed(alloc, End::NotBuilt, b"refused unbuilt\n");
+        return unbuilt(alloc);
     };
     let report = value_report(alloc, product, plain)?;
     let text = report_bytes(alloc, product, &report)?;
@@ -121,7 +129,7 @@ fn product_plan(alloc: Global, question: Question, admitted: &Admitted) -> Resul
 fn file_plan(alloc: Global, question: Question, bytes: &[u8]) -> Result<Plan, AllocError>
     ensures { IfOk result (λ plan. SettlesFile question bytes.now plan.end plan.report plan.text.items) }
 {
-    match opened(alloc, bytes)? {
+    match open_file(alloc, bytes)? {
         Opened::Admitted(admitted) => product_plan(alloc, question, &admitted),
         Opened::NotToml => printed(alloc, End::NotToml, b"refused toml\n"),
         Opened::Rule(found) => rule_refusal(alloc, found),
@@ -166,9 +174,9 @@ pub fn command_plan<H: Shelf>(
     command: Command<'_>,
     shelf: &mut H,
 ) -> Result<Plan, AllocError>
-    ensures settles { IfOk result (λ plan. (words : List (List ℕ)) → AreReadAs words (request_of command) →
+    ensures settles { IfOk result (λ plan. (words : List (List ℕ)) → AreReadAs words (request_of command.entry) →
         Settles (H.files shelf.old) words plan.end plan.report plan.text.items) }
-    ensures failed { IfOk result (λ plan. (words : List (List ℕ)) → AreReadAs words (request_of command) →
+    ensures failed { IfOk result (λ plan. (words : List (List ℕ)) → AreReadAs words (request_of command.entry) →
         H.failed shelf.new ≡ H.failed shelf.old ++ failed_name plan.end words) }
     ensures memory { OnErr result (H.failed shelf.new ≡ H.failed shelf.old) }
     ensures files { H.files shelf.new ≡ H.files shelf.old }
@@ -176,10 +184,10 @@ pub fn command_plan<H: Shelf>(
     match command {
         Command::Check(name) => named_plan(alloc, Question::Limits, name, shelf),
         Command::Value(name) => named_plan(alloc, Question::ValueAtIssue, name, shelf),
-        Command::Reserves(..)
-        | Command::Occupancy(..)
-        | Command::Moments(..)
-        | Command::Premium(_)
-        | Command::Generate(_) => printed(alloc, End::NotBuilt, b"refused unbuilt\n"),
+        Command::Reserves(..) => unbuilt(alloc),
+        Command::Occupancy(..) => unbuilt(alloc),
+        Command::Moments(..) => unbuilt(alloc),
+        Command::Premium(_) => unbuilt(alloc),
+        Command::Generate(_) => unbuilt(alloc),
     }
 }

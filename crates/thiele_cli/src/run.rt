@@ -1,5 +1,7 @@
 // The whole program but its real shelf and sink.
-ghost use Rattle.std.specs.Prelude.{◌≡◌, ◌≢◌, ◌++◌, ◌⊎◌, ℕ, None, IsSome};
+ghost use Rattle.std.specs.Prelude.{◌≡◌, ◌≢◌, ◌++◌, ◌⊎◌, ℕ, None, IsSome, codes};
+ghost use Rattle.std.specs.Io.KnownBytes.{Appends};
+ghost use Rattle.io_ports.specs.Growth.{AppendsPrefix};
 ghost use Rattle.io_ports.specs.Counts.{Rose};
 ghost use Rattle.model_specs.specs.Product.{Product};
 ghost use Rattle.product_model.specs.declared.breaks.RuleBreak.{RuleBreak};
@@ -16,8 +18,29 @@ use command_words::read_words;
 use io_ports::{Shelf, Sink};
 use std::alloc::Global;
 
-/// The line for words without a reading.
-const BAD_WORDS: &[u8] = b"refused words\n";
+/// Refuses words without a reading.
+fn refuse_words<K: Sink>(sink: &mut K) -> Finish
+    ensures status { result.status ≡ status_of result.end }
+    ensures end { (result.end ≡ End.BadWords) ⊎ (result.end ≡ End.WriteFault) }
+    ensures report { result.report ≡ None }
+    ensures written { result.end ≢ End.WriteFault → Appends (K.written sink.old) (K.written sink.new) (codes "refused words\n") }
+    ensures prefix { result.end ≡ End.WriteFault → AppendsPrefix (K.written sink.old) (K.written sink.new) (codes "refused words\n") }
+    ensures write_fault { result.end ≡ End.WriteFault → Rose (K.faults sink.old) (K.faults sink.new) }
+    ensures no_write_fault { result.end ≢ End.WriteFault → K.faults sink.new ≡ K.faults sink.old }
+{
+    match write_pieces(sink, b"refused words\n") {
+        Ok(()) => Finish {
+            status: End::BadWords.status(),
+            end: End::BadWords,
+            report: None,
+        },
+        Err(_) => Finish {
+            status: End::WriteFault.status(),
+            end: End::WriteFault,
+            report: None,
+        },
+    }
+}
 
 /// The top call: reads the words, fetches and reads the file that they name, and writes what they ask for, or the line
 /// that refuses it. All memory is taken before the first byte is written.
@@ -66,15 +89,7 @@ pub fn run<H: Shelf, K: Sink>(
     ensures files { H.files shelf.new ≡ H.files shelf.old }
 {
     let Some(command) = read_words(words) else {
-        let end = match write_pieces(sink, BAD_WORDS) {
-            Ok(()) => End::BadWords,
-            Err(_) => End::WriteFault,
-        };
-        return Finish {
-            status: end.status(),
-            end,
-            report: None,
-        };
+        return refuse_words(sink);
     };
     let plan = match command_plan(alloc, command, shelf) {
         Ok(plan) => plan,
@@ -86,13 +101,16 @@ pub fn run<H: Shelf, K: Sink>(
             };
         }
     };
-    let end = match write_pieces(sink, &plan.text) {
-        Ok(()) => plan.end,
-        Err(_) => End::WriteFault,
-    };
-    Finish {
-        status: end.status(),
-        end,
-        report: plan.report,
+    match write_pieces(sink, &plan.text) {
+        Ok(()) => Finish {
+            status: plan.end.status(),
+            end: plan.end,
+            report: plan.report,
+        },
+        Err(_) => Finish {
+            status: End::WriteFault.status(),
+            end: End::WriteFault,
+            report: plan.report,
+        },
     }
 }
