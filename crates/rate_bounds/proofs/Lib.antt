@@ -1,6 +1,5 @@
 pub mod BoundSteps
 pub mod CellSteps
-pub mod ConstantPayments
 pub mod DatedRadii
 pub mod FirstBroken
 pub mod FirstMonths
