@@ -35,7 +35,15 @@ fn endowment(alloc: Global) -> Result<Product, Fail> {
         until: 12,
         every: 0,
     };
-    let plan = Plan::new(alloc, 2, 24, sums, Vec::new(alloc), [LUMP].to_vec(alloc)?, pattern)?;
+    let plan = Plan::new(
+        alloc,
+        2,
+        24,
+        sums,
+        Vec::new(alloc),
+        [LUMP].to_vec(alloc)?,
+        pattern,
+    )?;
     let name = b"endowment".to_vec(alloc)?;
     let rates = vec![in alloc; rate]?;
     Ok(Product::new(name, graph, 1, 24, 20, interest, rates, plan))
@@ -58,9 +66,24 @@ fn parts_are_read_back(rt: HostRuntime) -> Result<(), Fail> {
 
 #[test]
 fn breaks_are_compared(rt: HostRuntime) {
-    let broken = RuleBreak { rule: 8, place: 4097 };
-    assert_eq!(rt; broken, RuleBreak { rule: 8, place: 4097 });
-    assert_ne!(rt; broken, RuleBreak { rule: 9, place: 4097 });
+    let broken = RuleBreak {
+        rule: 8,
+        place: 4097,
+    };
+    assert_eq!(rt;
+        broken,
+        RuleBreak {
+            rule: 8,
+            place: 4097
+        }
+    );
+    assert_ne!(rt;
+        broken,
+        RuleBreak {
+            rule: 9,
+            place: 4097
+        }
+    );
     let row = RowBreak { row: 3, part: 1 };
     assert_eq!(rt; row, RowBreak { row: 3, part: 1 });
     assert_ne!(rt; row, RowBreak { row: 3, part: 2 });
