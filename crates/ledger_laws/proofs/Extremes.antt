@@ -1,13 +1,14 @@
 -- Bounds on the greatest and the least of a list, and on sums.
-use Rattle.std.specs.Prelude.{◌≡◌, ℕ, zero, suc, ◌<◌, ◌≤◌, max, ℤ, pos, ◌≤ℤ◌}
+use Rattle.std.specs.Prelude.{◌≡◌, ℕ, zero, suc, ◌<◌, ◌≤◌, max, ℤ, pos, ◌+ℤ◌, ◌≤ℤ◌}
 use Rattle.std.specs.Prelude.{Bool, true, false, ◌&&◌, int_le, All, List, [], ◌∷◌, length, cond, refl}
 use Rattle.std.specs.Prelude.{slice_index_or, int_lt, Option, Some, None, find}
 use Rattle.std.specs.Int.{int_min}
+use Rattle.std.specs.Prelude.{map, filter}
 use Rattle.std.specs.List.{list_all}
 use Rattle.std.proofs.Common.{arith, ap, inl, inr}
 use Rattle.std.proofs.lemmas.Bool.{false≢true, cases_lt}
 use Rattle.std.proofs.lemmas.Int.{ints, clamps}
-use Rattle.std.proofs.lemmas.List.Elements.{All-nil, All-tail, All-head, All-cons}
+use Rattle.std.proofs.lemmas.List.Elements.{All-nil, All-tail, All-head, All-cons, All-map, All-filter}
 use Rattle.model_specs.specs.Whole.{list_of, whole_sum, greatest_whole, least_whole}
 use Rattle.model_specs.specs.Whole.{greatest_natural}
 
@@ -145,3 +146,31 @@ nothing_found test (x ∷ xs) h =
         some≢none : {A : Type 0} (x : A) → Some x ≡ None → ⊥
         some≢none x h = cc
     passes_over false x rest h = (refl, h)
+
+-- what a member that passes a test adds is at most what all that pass add up to
+pub part_of_sum : {A : Type 0} (f : A → ℤ) (test : A → Bool) (xs : List A) (k : ℕ) (d : A) → k < length xs
+    → test (slice_index_or xs k d) ≡ true → All (λ x. pos 0 ≤ℤ f x) xs
+    → f (slice_index_or xs k d) ≤ℤ whole_sum (map f (filter test xs))
+part_of_sum f test [] k d below passes natural = absurd (omega arith)
+part_of_sum f test (x ∷ xs) zero d below passes natural =
+    rw passes (first_part (f x) (whole_sum (map f (filter test xs))) (rest_natural f test x xs natural))
+  where
+    first_part : (a b : ℤ) → pos 0 ≤ℤ b → a ≤ℤ (a +ℤ b)
+    first_part a b h = omega (arith, ints)
+
+    rest_natural : {A : Type 0} (f : A → ℤ) (test : A → Bool) (x : A) (xs : List A)
+        → All (λ y. pos 0 ≤ℤ f y) (x ∷ xs) → pos 0 ≤ℤ whole_sum (map f (filter test xs))
+    rest_natural f test x xs natural = whole_sum_natural (map f (filter test xs))
+        (All-map (λ z. pos 0 ≤ℤ z) f (filter test xs)
+        (All-filter test (λ y. pos 0 ≤ℤ f y) xs (All-tail (λ y. pos 0 ≤ℤ f y) x xs natural)))
+part_of_sum f test (x ∷ xs) (suc k) d below passes natural =
+    elim (test x) as (λ b. f (slice_index_or xs k d)
+    ≤ℤ whole_sum (map f (cond b (x ∷ filter test xs) (filter test xs)))) [
+      | true ↦ later_part (f (slice_index_or xs k d)) (f x) (whole_sum (map f (filter test xs)))
+          (All-head (λ y. pos 0 ≤ℤ f y) x xs natural)
+          (part_of_sum f test xs k d (omega arith) passes (All-tail (λ y. pos 0 ≤ℤ f y) x xs natural))
+      | false ↦ part_of_sum f test xs k d (omega arith) passes (All-tail (λ y. pos 0 ≤ℤ f y) x xs natural)
+    ]
+  where
+    later_part : (a b c : ℤ) → pos 0 ≤ℤ b → a ≤ℤ c → a ≤ℤ (b +ℤ c)
+    later_part a b c h k = omega (arith, ints)

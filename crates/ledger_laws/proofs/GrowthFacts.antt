@@ -19,7 +19,8 @@ use Rattle.ledger_laws.proofs.Rounding.{div_ceil_most, cells_mono, never_falls, 
 use Rattle.ledger_laws.proofs.Rounding.{le_then_is, le_through}
 
 pub keeps_order : GrowthKeepsOrder
-keeps_order w v kappa higher add more cells order grows adds = cells_mono w v kappa higher add more cells order grows adds
+keeps_order w v kappa higher add more cells order grows adds =
+    cells_mono w v kappa higher add more cells order grows adds
 
 pub cells_never_fall : CellsNeverFall
 cells_never_fall kappa add w fewer more order = never_falls kappa add w fewer more order
@@ -28,7 +29,8 @@ cells_never_fall kappa add w fewer more order = never_falls kappa add w fewer mo
 share_most : (w times t kappa : ℕ) → w ≤ times * t
     → div_ceil (w * kappa) (2 ^ 40) ≤ times * div_ceil (t * kappa) (2 ^ 40)
 share_most w times t kappa most =
-    let part : t * kappa ≤ div_ceil (t * kappa) (2 ^ 40) * 2 ^ 40 = (div_ceil_times (t * kappa) (2 ^ 40) (omega arith)).0 in
+    let part : t * kappa ≤ div_ceil (t * kappa) (2 ^ 40) * 2 ^ 40 =
+    (div_ceil_times (t * kappa) (2 ^ 40) (omega arith)).0 in
     let scaled : times * (t * kappa) ≤ times * (div_ceil (t * kappa) (2 ^ 40) * 2 ^ 40) =
     mul-le times (t * kappa) times (div_ceil (t * kappa) (2 ^ 40) * 2 ^ 40) (omega arith) part in
     let whole : w * kappa ≤ times * t * kappa = mul-le-mul_right kappa most in
@@ -116,9 +118,12 @@ module _ (product : Product) (well : IsWellFormed product) (rules : ObeysAllMont
         radius_century,
       )
 
+  pub backward_months : (months : ℕ) → months ≤ product.months → radius_before_term product months ≤ greatest_radius
+  backward_months months within =
+      century (radius_before_term product months) months within (backward_most months within)
+
   pub backward_small : (date : ℕ) → radius product date ≤ greatest_radius
-  backward_small date = century (radius product date) (product.months - date) (omega arith)
-      (backward_most (product.months - date) (omega arith))
+  backward_small date = backward_months (product.months - date) (omega arith)
 
   pub forward_small : (date : ℕ) → date ≤ product.months → radius_forward product date ≤ greatest_radius
   forward_small date within = century (radius_forward product date) date within (forward_most date within)

@@ -1,3 +1,4 @@
+pub mod BeforeTerm
 pub mod BoundFacts
 pub mod Extremes
 pub mod Found

@@ -1,10 +1,12 @@
 -- How large the numbers of a month are.
 use Rattle.std.specs.Prelude.{◌≡◌, ℕ, zero, suc, ◌+◌, ◌*◌, ◌^◌, ◌<◌, ◌≤◌, ℤ, pos, negsuc, ◌*ℤ◌, ◌≤ℤ◌, neg_ℤ}
 use Rattle.std.specs.Prelude.{if◌then◌else◌, Bool, true, false, not, ◌&&◌, int_le, unsigned_abs, ◌==◌}
-use Rattle.std.specs.Prelude.{Option, Some, None, option_map, find, All, List, [], ◌∷◌, length, map, slice_index_or, refl}
+use Rattle.std.specs.Prelude.{Option, Some, None, option_map, find, All, List, [], ◌∷◌, length, map}
+use Rattle.std.specs.Prelude.{slice_index_or, refl}
 use Rattle.std.specs.Int.{div_ceil}
 use Rattle.std.specs.List.{list_all}
 use Rattle.std.proofs.Common.{arith, sym}
+use Rattle.std.proofs.lemmas.Bool.Decides.{nat_tests}
 use Rattle.std.proofs.lemmas.Int.{ints}
 use Rattle.std.proofs.lemmas.List.Elements.{All-map, All-filter, All-weaker}
 use Rattle.std.proofs.Math.Nat.{pow-le-pow_left}
@@ -21,6 +23,7 @@ use Rattle.ledger_laws.specs.MonthLaws.{MonthNumbersAreSmall}
 use Rattle.ledger_laws.proofs.Extremes.{le_from_test, both_pass, each_passes, nothing_found}
 use Rattle.ledger_laws.proofs.Extremes.{greatest_natural-has, greatest_whole_natural, greatest_whole_least}
 use Rattle.ledger_laws.proofs.Extremes.{least_whole-has, whole_sum_natural, length-list_of, place_of_list, All-list_of}
+use Rattle.ledger_laws.proofs.Extremes.{part_of_sum}
 use Rattle.ledger_laws.proofs.Rounding.{div_ceil_most}
 
 -- nothing is given exactly where no part gives anything
@@ -141,6 +144,23 @@ exits_natural product month i rule =
     (All-weaker (λ e. e < length product.transitions) (λ e. pos 0 ≤ℤ greatest_rate product e month)
     (λ e below. rate_natural product month e rule below) (exits product i) (exits_below product i)))
 
+-- a transition's rate is a part of what its state's exits add up to
+rate_within : (product : Product) (month e : ℕ) → obeys_rule_16 product month ≡ true
+    → e < length product.transitions
+    → greatest_rate product e month ≤ℤ exit_rates product month (transition_at product e).from
+rate_within product month e rule below =
+    let all = length product.transitions in
+    rw (place_of_list all (λ i. i) e 0 below) at
+    (part_of_sum (λ i. greatest_rate product i month)
+    (λ i. (transition_at product i).from == (transition_at product e).from) (places all) e 0
+    (rw (length-list_of all (λ i. i)) below)
+    (rw (place_of_list all (λ i. i) e 0 below) (same_state (transition_at product e).from))
+    (All-list_of (λ i. pos 0 ≤ℤ greatest_rate product i month) all (λ i. i)
+    (λ i inside. rate_natural product month i rule inside)))
+  where
+    same_state : (n : ℕ) → (n == n) ≡ true
+    same_state n = grind (arith, nat_tests)
+
 exits_within_rho : (n : ℕ) (f : ℕ → ℤ) (i : ℕ) → i < n → f i ≤ℤ greatest_whole (list_of n f)
 exits_within_rho n f i below = rw (place_of_list n f i (pos 0) below) at
     (greatest_whole_least (list_of n f) i (pos 0) (rw (length-list_of n f) below))
@@ -199,6 +219,13 @@ month_numbers product month well rules =
     record {
       some_unit = unit_least product.den well.head.some_denominator;
       unit_most = unit_most product.den well.head.largest_denominator;
+      rates_most = λ e below. le_through (greatest_rate product e month)
+          (exit_rates product month (transition_at product e).from) (pos (2 * month_unit product))
+          (rate_within product month e rules.rates below)
+          (le_through (exit_rates product month (transition_at product e).from) (rho product month)
+          (pos (2 * month_unit product))
+          (exits_within_rho (length product.states) (exit_rates product month) (transition_at product e).from
+          (well.transitions.from e no_transition below)) rho_most);
       rates_natural = λ e below. rate_natural product month e rules.rates below;
       exits_natural = λ i. exits_natural product month i rules.rates;
       exits_most = λ i below. le_through (exit_rates product month i) (rho product month)

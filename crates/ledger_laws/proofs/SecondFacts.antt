@@ -39,14 +39,15 @@ second_back product plan G month below =
 
 module _ (product : Product) (plan : Plan) (G : ℕ) (well : IsWellFormed product) (rules : ObeysAllMonths product)
     (some : 1 ≤ G) where
-  kappa_small : (month : ℕ) → month < product.months → kappa40 product month ≤ 2 ^ 40
-  kappa_small month below = small (kappa40 product month) (month_numbers product month well (rules month below)).kappa_below
+  pub kappa_small : (month : ℕ) → month < product.months → kappa40 product month ≤ 2 ^ 40
+  kappa_small month below = small (kappa40 product month)
+      (month_numbers product month well (rules month below)).kappa_below
     where
       small : (k : ℕ) → k ≤ 2 ^ 28 → k ≤ 2 ^ 40
       small k h = omega arith
 
   -- G times the second radius against the bound and the first radius
-  before_term : (months : ℕ) → months ≤ product.months → 512 * G * second_before_term product plan G months
+  pub before_term : (months : ℕ) → months ≤ product.months → 512 * G * second_before_term product plan G months
       ≤ (bound_before_term product plan months + 1024 * G) * radius_before_term product months
   before_term zero within = omega arith
   before_term (suc months) within =

@@ -8,7 +8,8 @@ use Rattle.frac_laws.specs.Ledger.{grow}
 use Rattle.model_specs.specs.Ledgers.{grow_cells, second_grow_cells, date_adds}
 
 -- what a date adds is a quotient that is rounded up, and 4
-date_adds_most : (lumps : List (ℕ × ℤ)) (largest w G : ℕ) → date_adds lumps largest w G ≤ div_ceil (2 * largest * w) G + 4
+date_adds_most : (lumps : List (ℕ × ℤ)) (largest w G : ℕ)
+    → date_adds lumps largest w G ≤ div_ceil (2 * largest * w) G + 4
 date_adds_most [] largest w G = omega arith
 date_adds_most (lump ∷ lumps) largest w G = omega arith
 

@@ -1,3 +1,4 @@
+pub mod BeforeTermLaws
 pub mod BoundLaws
 pub mod GrowthLaws
 pub mod MonthLaws

@@ -34,6 +34,8 @@ pub record HasSmallNumbers (product : Product) (month : ℕ) : Type 0 where
   pub some_unit : 2488320 ≤ month_unit product
   pub unit_most : month_unit product ≤ 2488320 * 10 ^ 12
   pub rates_natural : (e : ℕ) → e < length product.transitions → pos 0 ≤ℤ greatest_rate product e month
+  pub rates_most : (e : ℕ) → e < length product.transitions
+      → greatest_rate product e month ≤ℤ pos (2 * month_unit product)
   pub exits_natural : (i : ℕ) → pos 0 ≤ℤ exit_rates product month i
   pub exits_most : (i : ℕ) → i < length product.states
       → exit_rates product month i ≤ℤ pos (2 * month_unit product)

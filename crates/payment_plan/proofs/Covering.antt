@@ -86,7 +86,8 @@ held : (steps : List Step) (months month low : ℕ) → IsLastStart steps months
 held steps months month low last =
     elim (below_or_not (suc low) (length (step_starts steps))) [
       | inl below ↦
-          let later : month < start_of steps (suc low) = rw add-one at (last.next (omega (arith, length-starts steps))) in
+          let later : month < start_of steps (suc low) =
+          rw add-one at (last.next (omega (arith, length-starts steps))) in
           omega (arith, later, get_or-default (step_starts steps) (suc low) months 0 below, last.started)
       | inr above ↦ omega (arith, get_or-past (step_starts steps) (suc low) months above, last.started, last.term)
     ]
@@ -97,7 +98,8 @@ shorter_power n s t j l h k = omega (arith, mul-le-mul_left n (pow-le-pow_left h
 pub bounded_shorter : (c : List ℤ) (s t : ℕ) → s ≤ t → IsBoundedStep c t → IsBoundedStep c s
 bounded_shorter c s t h b =
     record {
-      coefficients = λ i inside. shorter_power (unsigned_abs (get_or c i (pos 0))) s t i (10 ^ 22) h (b.coefficients i inside);
+      coefficients = λ i inside.
+          shorter_power (unsigned_abs (get_or c i (pos 0))) s t i (10 ^ 22) h (b.coefficients i inside);
       amounts = λ k below. b.amounts k (omega arith);
     }
 

@@ -42,8 +42,8 @@ pub kept_dates : (p : Payments) (rows : List (Vec (ℕ × ℤ) Global)) (payers 
     → KeepsTables p (lists_of rows) payers → length rows ≡ suc p.months
 kept_dates p rows payers kept = dates_long rows (suc p.months) (lumps_at p.states (benefits_of p)) kept.dates_are
 
-pub kept_date : (p : Payments) (rows : List (Vec (ℕ × ℤ) Global)) (payers : List (ℕ × ℤ)) (date : ℕ) (v : Vec (ℕ × ℤ) Global)
-    → KeepsTables p (lists_of rows) payers → date ≤ p.months → v ≡ get_or rows date v
+pub kept_date : (p : Payments) (rows : List (Vec (ℕ × ℤ) Global)) (payers : List (ℕ × ℤ)) (date : ℕ)
+    (v : Vec (ℕ × ℤ) Global) → KeepsTables p (lists_of rows) payers → date ≤ p.months → v ≡ get_or rows date v
     → v.items ≡ lumps_at p.states (benefits_of p) date
 kept_date p rows payers date v kept within is =
     date_is rows (suc p.months) (lumps_at p.states (benefits_of p)) date v kept.dates_are (omega arith) is

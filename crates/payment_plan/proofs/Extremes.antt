@@ -1,11 +1,12 @@
 -- The greatest and the least of numbers that rule 11 bounds, and the load of them.
-use Rattle.std.proofs.Common.{◌≡◌, ℕ, ◌+◌, ◌*◌, ◌^◌, ◌≤◌, ℤ, pos, negsuc, ◌-ℤ◌, ◌≤ℤ◌, List, [], ◌∷◌, arith, refl, ap, sym, length, get_or, Fits}
+use Rattle.std.proofs.Common.{◌≡◌, ℕ, ◌+◌, ◌*◌, ◌^◌, ◌≤◌, ℤ, pos, negsuc, ◌-ℤ◌, ◌≤ℤ◌, List, [], ◌∷◌}
+use Rattle.std.proofs.Common.{length, get_or, Fits, FitsSigned, arith, refl, ap, sym}
 use Rattle.std.specs.Prelude.{All, map, unsigned_abs}
 use Rattle.std.specs.Int.{div_ceil, int_max, int_min}
 use lib.Dec.{T}
 use lib.Signed.{non_neg}
 use Rattle.std.specs.Int.{w128}
-use Rattle.std.proofs.lemmas.Int.{ints}
+use Rattle.std.proofs.lemmas.Int.{ints, fits_signed_from_abs}
 use Rattle.std.proofs.lemmas.List.Elements.{All-head, All-tail}
 use Rattle.model_specs.specs.Whole.{greatest_natural, greatest_whole, least_whole, natural_part}
 use Rattle.poly_small.proofs.Sixes.{six_are_all}
@@ -31,7 +32,8 @@ least_within (x ∷ y ∷ xs) l h =
     size_of_min x (least_whole (y ∷ xs)) l (All-head (λ n. unsigned_abs n ≤ l) x (y ∷ xs) h)
     (least_within (y ∷ xs) l (All-tail (λ n. unsigned_abs n ≤ l) x (y ∷ xs) h))
 
-greatest_size_within : (xs : List ℤ) (l : ℕ) → All (λ n. unsigned_abs n ≤ l) xs → greatest_natural (map unsigned_abs xs) ≤ l
+greatest_size_within : (xs : List ℤ) (l : ℕ) → All (λ n. unsigned_abs n ≤ l) xs
+    → greatest_natural (map unsigned_abs xs) ≤ l
 greatest_size_within [] l h = omega arith
 greatest_size_within (x ∷ xs) l h =
     omega (
@@ -55,7 +57,8 @@ pub record AreExtremes (xs : List ℤ) (g l : ℤ) : Type 0 where
   pub greatest : g ≡ greatest_whole xs
   pub least : l ≡ least_whole xs
 
-difference_within : (g l : ℤ) (most : ℕ) → unsigned_abs g ≤ most → unsigned_abs l ≤ most → unsigned_abs (g -ℤ l) ≤ 2 * most
+difference_within : (g l : ℤ) (most : ℕ) → unsigned_abs g ≤ most → unsigned_abs l ≤ most
+    → unsigned_abs (g -ℤ l) ≤ 2 * most
 difference_within g l most h k = grind (arith, ints)
 
 difference_positive : (g l : ℤ) → l ≤ℤ g → pos 0 ≤ℤ (g -ℤ l)
@@ -73,7 +76,7 @@ non_negative : (z : ℤ) → pos 0 ≤ℤ z → T (non_neg z)
 non_negative (pos n) h = tt
 non_negative (negsuc n) h = absurd (omega (arith, ints))
 
-pub extremes_apart : (xs : List ℤ) (g l : ℤ) → AreExtremes xs g l
+extremes_apart : (xs : List ℤ) (g l : ℤ) → AreExtremes xs g l
     → (pos 0 ≤ℤ (g -ℤ l)) × (unsigned_abs (g -ℤ l) ≤ 2 * (10 ^ 12 * 2488320))
 extremes_apart xs g l e =
     rw (e.greatest, e.least) (
@@ -89,7 +92,11 @@ extremes_differ xs g l e =
     (natural_part_is (greatest_whole xs -ℤ least_whole xs)
     (difference_positive (greatest_whole xs) (least_whole xs) (least_below_greatest xs)))
 
--- it is a number without a sign
+-- their difference fits
+pub difference_fits : (xs : List ℤ) (g l : ℤ) → AreExtremes xs g l → FitsSigned w128 (g -ℤ l)
+difference_fits xs g l e = fits_signed_from_abs w128 (g -ℤ l) (omega (arith, (extremes_apart xs g l e).1))
+
+-- and is a number without a sign
 pub cast_fits : (xs : List ℤ) (g l : ℤ) → AreExtremes xs g l
     → T (non_neg (g -ℤ l)) × Fits w128 (unsigned_abs (g -ℤ l))
 cast_fits xs g l e = (

@@ -56,7 +56,8 @@ value_of_sizes-take (c ∷ p) (suc n) x = grows (unsigned_abs c) _ _ x (value_of
     grows a v w x h = grind arith
 
 -- zeros are bounded
-four_bounded : (c0 c1 c2 c3 : ℤ) (s : ℕ) → IsBounded (c0 ∷ c1 ∷ c2 ∷ c3 ∷ []) s → IsBounded (padded (c0 ∷ c1 ∷ c2 ∷ c3 ∷ [])) s
+four_bounded : (c0 c1 c2 c3 : ℤ) (s : ℕ) → IsBounded (c0 ∷ c1 ∷ c2 ∷ c3 ∷ []) s
+    → IsBounded (padded (c0 ∷ c1 ∷ c2 ∷ c3 ∷ [])) s
 four_bounded c0 c1 c2 c3 s b zero inside = b 0 (omega arith)
 four_bounded c0 c1 c2 c3 s b (suc zero) inside = b 1 (omega arith)
 four_bounded c0 c1 c2 c3 s b (suc (suc zero)) inside = b 2 (omega arith)
@@ -72,7 +73,8 @@ padded_bounded p s h =
     (four_bounded (get_or p 0 (pos 0)) (get_or p 1 (pos 0)) (get_or p 2 (pos 0)) (get_or p 3 (pos 0)) s)
 
 -- and change no Bernstein numerator
-pub padded_numerators : (p : List ℤ) (k : ℕ) → length p ≡ 4 → bernstein_numerators (padded p) k ≡ bernstein_numerators p k
+pub padded_numerators : (p : List ℤ) (k : ℕ) → length p ≡ 4
+    → bernstein_numerators (padded p) k ≡ bernstein_numerators p k
 padded_numerators p k h =
     let P : List ℤ → Type 0 = λ q. bernstein_numerators (padded q) k ≡ bernstein_numerators q k in
     subst P (sym (four_are_all p h)) refl

@@ -40,7 +40,8 @@ good_in months state (s ∷ sojourns) payments bounded =
           (All-tail (λ s. IsBoundedPayment months s.steps) s sojourns bounded))
     ]
 
-pub good_sojourns : (p : Payments) (state : ℕ) → HasGoodPayments p → HasGoodSteps p.months (steps_in_state p.sojourns state)
+pub good_sojourns : (p : Payments) (state : ℕ) → HasGoodPayments p
+    → HasGoodSteps p.months (steps_in_state p.sojourns state)
 good_sojourns p state good = good_in p.months state p.sojourns good.sojourns good.bounded_sojourns
 
 pub good_sums : (p : Payments) (e : ℕ) → HasGoodPayments p → e < length p.sums

@@ -1,3 +1,4 @@
+pub mod Constants
 pub mod Covering
 pub mod Dated
 pub mod Extremes

@@ -10,6 +10,7 @@ use Rattle.frac_laws.proofs.Quotients.{cross_of_over_equal}
 use Rattle.frac_laws.proofs.WholeProducts.{product_le_cancel}
 use Rattle.model_specs.specs.MonthNumbers.{bernstein_numerator, bernstein_numerators}
 use Rattle.model_specs.specs.NumberLaws.{month_polynomial}
+use Rattle.payment_plan.proofs.FourCoefficients.{padded, length-padded, padded_numerators}
 use Rattle.model_specs.proofs.MonthCoefficients.{curve_numerators_stand}
 
 -- equal numbers over one denominator are equal
@@ -60,9 +61,18 @@ numerators_stand c k six =
     (ap (λ z. z ∷ []) (stands c k 5 (omega arith) six))))))
 
 -- what stands for the coefficients are the numerators
-pub numerators_are : (c b : List ℤ) (k : ℕ) → length c ≡ 6
+numerators_are : (c b : List ℤ) (k : ℕ) → length c ≡ 6
     → all_over (2488320 * 1) b
     ≡ bernstein_coefficients (stretched (over (pos 1) 12) (shifted (over (pos k) 12) (all_over 1 c)))
     → b ≡ bernstein_numerators c k
 numerators_are c b k six h =
     all_over_is_one_to_one b (bernstein_numerators c k) 2488320 (omega arith) (h ∙ sym (numerators_stand c k six))
+
+-- a payment's four coefficients with two zeros behind them have the numerators of the payment
+pub payment_numerators_are : (c p b : List ℤ) (k : ℕ) → length c ≡ 4 → p ≡ padded c
+    → all_over (2488320 * 1) b
+    ≡ bernstein_coefficients (stretched (over (pos 1) 12) (shifted (over (pos k) 12) (all_over 1 p)))
+    → b ≡ bernstein_numerators c k
+payment_numerators_are c p b k four zeros h =
+    numerators_are p b k (ap length zeros ∙ length-padded c four) h
+    ∙ ap (λ q. bernstein_numerators q k) zeros ∙ padded_numerators c k four

@@ -65,8 +65,11 @@ ones_of (d ∷ dates) payers date i =
           (subst (λ e. first_at (ones_at payers d) e i ≡ payer_at payers i) here.1 (ones_here payers d i))
           (ones_of dates payers date i))
       | inr other ↦
-          rw (other.0, find-append test (ones_at payers d) (flat_map (ones_at payers) dates), ones_elsewhere payers d date i other.0)
-          (ones_of dates payers date i)
+          rw (
+            other.0,
+            find-append test (ones_at payers d) (flat_map (ones_at payers) dates),
+            ones_elsewhere payers d date i other.0,
+          ) (ones_of dates payers date i)
     ]
 
 -- a test that two places pass is passed by one of all
@@ -151,8 +154,8 @@ pub dates_tell : (until e date : ℕ) → 1 ≤ e
     ≡ (nat_lt date until && (date % e == 0))
 dates_tell until e date some =
     ap (list_any (λ d. d == date)) (map-list_of (λ k. k * e) (div_ceil until e) (λ i. i))
-    ∙ same_answer (list_any (λ d. d == date) (list_of (div_ceil until e) (λ k. k * e))) (nat_lt date until && (date % e == 0))
-    there back
+    ∙ same_answer (list_any (λ d. d == date) (list_of (div_ceil until e) (λ k. k * e)))
+    (nat_lt date until && (date % e == 0)) there back
   where
     there : list_any (λ d. d == date) (list_of (div_ceil until e) (λ k. k * e)) ≡ true
         → (nat_lt date until && (date % e == 0)) ≡ true

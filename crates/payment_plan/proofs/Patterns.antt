@@ -19,7 +19,8 @@ unit_amount b = cond b (pos 1) (pos 0)
 
 -- the steps of a payer: 1 up to the month until, and 0 from there on
 payer_steps : (steps : List Step) (payers : List ℕ) (state : ℕ)
-    → steps_in_state (map (λ i. record { state = i; steps = steps }) payers) state ≡ cond (is_payer payers state) steps []
+    → steps_in_state (map (λ i. record { state = i; steps = steps }) payers) state
+    ≡ cond (is_payer payers state) steps []
 payer_steps steps [] state = refl
 payer_steps steps (payer ∷ payers) state =
     elim (eqb_tells payer state) [
@@ -67,7 +68,9 @@ continuous_rate pattern state month =
     by_payer : (b : Bool)
         → (step_at (cond b (constant_step 0 (pos 1) ∷ constant_step pattern.until (pos 0) ∷ []) []) month).c
         ≡ (constant_step 0 (unit_amount (nat_lt month pattern.until && b))).c
-    by_payer true = two_steps pattern.until month ∙ ap (λ v. (constant_step 0 (unit_amount v)).c) (with_true (nat_lt month pattern.until))
+    by_payer true =
+        two_steps pattern.until month
+        ∙ ap (λ v. (constant_step 0 (unit_amount v)).c) (with_true (nat_lt month pattern.until))
     by_payer false = ap (λ v. (constant_step 0 (unit_amount v)).c) (with_false (nat_lt month pattern.until))
 
 pub pattern_rate : (p : Payments) (state month : ℕ)
@@ -82,12 +85,12 @@ pattern_rate p state month = cases (p.pattern.every == 0) refl
     cases false h = rw h refl
 
 -- a constant of 1 or 0 is bounded
-one_numerators : (k : ℕ)
+pub one_numerators : (k : ℕ)
     → bernstein_numerators (pos 1 ∷ pos 0 ∷ pos 0 ∷ pos 0 ∷ []) k
     ≡ pos 2488320 ∷ pos 2488320 ∷ pos 2488320 ∷ pos 2488320 ∷ pos 2488320 ∷ pos 2488320 ∷ []
 one_numerators k = simp (mul-zero, pow-zero)
 
-no_numerators : (k : ℕ)
+pub no_numerators : (k : ℕ)
     → bernstein_numerators (pos 0 ∷ pos 0 ∷ pos 0 ∷ pos 0 ∷ []) k ≡ pos 0 ∷ pos 0 ∷ pos 0 ∷ pos 0 ∷ pos 0 ∷ pos 0 ∷ []
 no_numerators k = simp (mul-zero, pow-zero)
 

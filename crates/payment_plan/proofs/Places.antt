@@ -42,6 +42,7 @@ places-agree n f g h = filter_map-agree n (λ i. i) f g h
 pub places-none : {B : Type 0} (n : ℕ) (f : ℕ → Option B) → ((i : ℕ) → f i ≡ None) → filter_map f (places n) ≡ []
 places-none n f h = none_of n (λ i. i) f h
   where
-    none_of : {B : Type 0} (n : ℕ) (p : ℕ → ℕ) (f : ℕ → Option B) → ((i : ℕ) → f i ≡ None) → filter_map f (list_of n p) ≡ []
+    none_of : {B : Type 0} (n : ℕ) (p : ℕ → ℕ) (f : ℕ → Option B) → ((i : ℕ) → f i ≡ None)
+        → filter_map f (list_of n p) ≡ []
     none_of zero p f h = refl
     none_of (suc n) p f h = rw (h (p 0)) (none_of n (λ i. p (suc i)) f h)

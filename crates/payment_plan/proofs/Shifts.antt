@@ -30,7 +30,7 @@ added : (c b : Fraction) (xs : List Fraction)
 added c b [] = refl
 added c b (x ∷ xs) = refl
 
-shifted-none : (b : Fraction) (p : List Fraction) → shifted b (p ++ none) ≡ shifted b p ++ none
+pub shifted-none : (b : Fraction) (p : List Fraction) → shifted b (p ++ none) ≡ shifted b p ++ none
 shifted-none b [] = ap (λ z. z ∷ []) (ring [] (hlevel terms) refl)
 shifted-none b (c ∷ p) =
     ap (λ z. add_lists (c ∷ []) (times_linear b z)) (shifted-none b p)
@@ -80,7 +80,8 @@ first_shifted b p =
 in_cells : (p : List ℤ) → length p ≡ 4
     → all_over (384 ^ 3) (in_units_of 384 p) ≡ stretched (over (pos 1) 384) (all_over 1 p)
 in_cells p h =
-    let P : List ℤ → Type 0 = λ q. all_over (384 ^ 3) (in_units_of 384 q) ≡ stretched (over (pos 1) 384) (all_over 1 q) in
+    let P : List ℤ → Type 0 =
+    λ q. all_over (384 ^ 3) (in_units_of 384 q) ≡ stretched (over (pos 1) 384) (all_over 1 q) in
     subst P (sym (four_are_all p h)) (in_units-stretched (get_or p 0 (pos 0))
     (get_or p 1 (pos 0) ∷ get_or p 2 (pos 0) ∷ get_or p 3 (pos 0) ∷ []) 1 384 (omega arith) (omega arith))
 
@@ -91,7 +92,6 @@ cells_in_years n = ring (whole n ∷ over (pos 1) 384 ∷ []) (hlevel terms) ref
 -- the numbers of a cell: the coefficients c of a step, in cells, shifted to the cell's end and turned
 pub record IsCell (c r n : List ℤ) (origin : ℕ) : Type 0 where
   pub four : length c ≡ 4
-  pub six : length n ≡ 6
   pub shift : all_over (384 ^ 3) r ≡ shifted (whole (pos origin)) (all_over (384 ^ 3) (padded (in_units_of 384 c)))
   pub turn : all_over (384 ^ 3) n ≡ reflected (all_over (384 ^ 3) r)
 
@@ -117,7 +117,8 @@ pub cell_is_amount : (c r n : List ℤ) (origin : ℕ) → IsCell c r n origin
 cell_is_amount c r n origin is =
     sym (all_over-take (384 ^ 3) 4 n)
     ∙ ap (take 4) (is.turn ∙ ap reflected is.shift)
-    ∙ stretched-take (whole (negsuc 0)) 4 (shifted (whole (pos origin)) (all_over (384 ^ 3) (padded (in_units_of 384 c))))
+    ∙ stretched-take (whole (negsuc 0)) 4
+    (shifted (whole (pos origin)) (all_over (384 ^ 3) (padded (in_units_of 384 c))))
     ∙ ap reflected (first_four c origin is.four
     ∙ shifted-stretched (whole (pos origin)) (over (pos 1) 384) (all_over 1 c))
     ∙ stretched-stretched (whole (negsuc 0)) (over (pos 1) 384)

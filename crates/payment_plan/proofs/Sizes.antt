@@ -1,13 +1,15 @@
 -- Rule 11 bounds the numbers that a cell or a month forms.
 use Rattle.std.proofs.Common.{◌≡◌, ℕ, zero, suc, ◌+◌, ◌*◌, ◌^◌, ◌<◌, ◌≤◌, ℤ, pos, List, [], ◌∷◌, length, get_or, max}
-use Rattle.std.proofs.Common.{take, arith, ap, sym, ◌∙◌}
+use Rattle.std.proofs.Common.{◌-◌, ◌<◌, take, arith, ap, sym, ◌∙◌}
 use Rattle.std.specs.Prelude.{unsigned_abs}
 use Rattle.std.proofs.Math.Nat.{mul_assoc, mul_comm, mul-le-mul_left, mul-le-mul_right, pow-zero, pow-suc}
 use Rattle.std.proofs.lemmas.Int.{unsigned_abs-mul}
-use Rattle.model_specs.specs.RecordRules.{IsBounded}
+use Rattle.model_specs.specs.RecordRules.{IsBounded, IsBoundedStep}
+use Rattle.payment_plan.specs.declared.step.StepAmount.{StepAmount}
 use Rattle.poly_small.specs.WholePolynomials.{value_of_sizes, in_units_of}
 use Rattle.poly_small.proofs.Values.{value_of_sizes-grows}
-use Rattle.payment_plan.proofs.FourCoefficients.{padded, length-padded, padded_bounded, value_of_sizes-padded, value_of_sizes-take}
+use Rattle.payment_plan.proofs.FourCoefficients.{padded, length-padded, padded_bounded, value_of_sizes-padded}
+use Rattle.payment_plan.proofs.FourCoefficients.{value_of_sizes-take}
 
 -- u^(n-1) + a u^(n-2) + .. + a^(n-1)
 abbrev pub geometric : ℕ → ℕ → ℕ → ℕ
@@ -92,6 +94,18 @@ pub record FormsCell (c q : List ℤ) (k origin : ℕ) : Type 0 where
   pub bounded : IsBounded c (k + 1)
   pub origin_within : origin ≤ 32 * (k + 1)
   pub units : q ≡ padded (in_units_of 384 c)
+
+-- those of a step in a cell of a month
+pub forms_of : (s : StepAmount) (q : List ℤ) (month cell : ℕ) → length s.c ≡ 4
+    → IsBoundedStep s.c (month - s.from + 1) → cell < 32 → q ≡ padded (in_units_of 384 s.c)
+    → FormsCell s.c q (month - s.from) ((month - s.from) * 32 + cell + 1)
+forms_of s q month cell four bounded within units =
+    record {
+      four = four;
+      bounded = bounded.coefficients;
+      origin_within = omega (arith, within);
+      units = units;
+    }
 
 pub shift_fits : (c q : List ℤ) (k origin : ℕ) → FormsCell c q k origin
     → 32 * value_of_sizes q (max origin 1) < 2 ^ 104

@@ -1,5 +1,6 @@
 -- The starts of steps, place by place.
-use Rattle.std.proofs.Common.{◌≡◌, ℕ, zero, suc, ◌<◌, ◌≤◌, List, [], ◌∷◌, length, get_or, arith, refl, ap, inl, inr, ◌⊎◌}
+use Rattle.std.proofs.Common.{◌≡◌, ℕ, zero, suc, ◌<◌, ◌≤◌, List, [], ◌∷◌, length, get_or}
+use Rattle.std.proofs.Common.{arith, refl, ap, inl, inr, ◌⊎◌}
 use Rattle.model_specs.specs.Product.{Step}
 use Rattle.model_specs.specs.RecordRules.{step_starts}
 use Rattle.payment_plan.specs.declared.step.StepAmount.{StepAmount}

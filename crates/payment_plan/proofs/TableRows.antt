@@ -1,6 +1,7 @@
 -- A table with a place for each date and state, and its rows.
 use Rattle.std.proofs.Common.{◌≡◌, ℕ, suc, ◌+◌, ◌-◌, ◌*◌, ◌<◌, ◌≤◌, ℤ, List, [], ◌∷◌, length, get_or, drop}
-use Rattle.std.proofs.Common.{true, false, arith, refl, ap, sym, subst, ◌∙◌, inl, inr, add-one, length-drop, ◌++◌, pos, cond, Bool, append-nil}
+use Rattle.std.proofs.Common.{true, false, arith, refl, ap, sym, subst, ◌∙◌, inl, inr, add-one}
+use Rattle.std.proofs.Common.{length-drop, ◌++◌, pos, cond, Bool, append-nil}
 use Rattle.std.specs.Prelude.{Option, Some, None, option_map, find, ◌==◌, ◌&&◌, slice_range}
 use Rattle.std.specs.Option.{option_to_list}
 use mathlib.Core.Path.{ap₂}
@@ -15,7 +16,8 @@ use Rattle.model_specs.specs.Whole.{list_of}
 use Rattle.model_specs.specs.Product as model
 use Rattle.payment_plan.specs.declared.lump.Lump.{Lump}
 use Rattle.payment_plan.specs.Records.{lumps_of}
-use Rattle.payment_plan.specs.Tables.{with_state, amount_at, row_upto, row_at, dated_lumps, is_payer, payer_at, payers_in_order, lists_of}
+use Rattle.payment_plan.specs.Tables.{with_state, amount_at, row_upto, row_at, dated_lumps, lists_of}
+use Rattle.payment_plan.specs.Tables.{is_payer, payer_at, payers_in_order}
 use Rattle.payment_plan.proofs.Starts.{below_or_not}
 use Rattle.payment_plan.proofs.Places.{places-agree, places-more, list_of-more}
 
@@ -137,7 +139,8 @@ at_row : (table : List (Option ℤ)) (states months date i : ℕ) (lumps : List 
     → date < months + 1 → i < states
     → get_or (slice_range table (date * states) ((date + 1) * states)) i None ≡ amount_at (lumps_of lumps) date i
 at_row table states months date i lumps t h below =
-    get_or-take ((date + 1) * states - date * states) (drop (date * states) table) i None (omega (arith, row_length states date))
+    get_or-take ((date + 1) * states - date * states) (drop (date * states) table) i None
+    (omega (arith, row_length states date))
     ∙ get_or-drop (date * states) table i None
     ∙ t.amounts date i below (omega (arith, row_end states months date h, t.long))
 

@@ -44,7 +44,8 @@ pub fn amount_cell(s: &StepAmount, month: u32, cell: u32) -> [i128; 4]
     requires term { month < 1200 }
     requires cell { cell < 32 }
     requires bounded { IsBoundedStep s.now.c (month - s.now.from + 1) }
-    ensures polynomial { all_over (384 ^ 3) result ≡ cells.amount_cell (cells.cells_of_32 cells.Backward) (record_of s.now) month cell }
+    ensures polynomial { all_over (384 ^ 3) result
+        ≡ cells.amount_cell (cells.cells_of_32 cells.Backward) (record_of s.now) month cell }
     ensures size { value_of_sizes result 1 < 2 ^ 104 }
 {
     let origin = (month - s.from) * 32 + cell + 1;

@@ -76,7 +76,8 @@ pub(crate) fn lumps_by_date(
     requires most_months { months ≤ 1200 }
     requires states { All (λ l. l.state < states) lumps.now }
     requires dates { All (λ l. l.month ≤ months) lumps.now }
-    ensures { IfOk result (λ dated. lists_of dated.items ≡ list_of (suc months) (dated_lumps states (lumps_of lumps.now))) }
+    ensures { IfOk result (λ dated. lists_of dated.items
+        ≡ list_of (suc months) (dated_lumps states (lumps_of lumps.now))) }
 {
     let dates = months as usize + 1;
     let mut table = vec![in alloc; None; dates * states]?;

@@ -16,3 +16,6 @@ pub use lump::Lump;
 pub use pattern::{PatternRule, Which};
 pub use plan::Plan;
 pub use step::StepAmount;
+
+#[cfg(test)]
+mod tests;

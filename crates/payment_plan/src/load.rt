@@ -50,7 +50,8 @@ fn load_of(numbers: &[i128; 6]) -> i128
     ensures value { result ≡ pos (load_of_numerators numbers.now) }
     ensures most { load_of_numerators numbers.now ≤ 9 * 10 ^ 12 }
 {
-    (greatest_size(numbers) + 4 * spread(numbers)).div_ceil(UNIT) as i128
+    let weight = greatest_size(numbers) + 4 * spread(numbers);
+    weight.div_ceil(UNIT) as i128
 }
 
 /// The load of a step in a month, in minor units (per year, for a sojourn): the greatest size of the Bernstein

@@ -1,7 +1,9 @@
 //! Payment plans.
 
-ghost use Rattle.std.specs.Prelude.{◌≡◌, ◌+◌, ◌-◌, ◌<◌, ◌≤◌, IfOk, [], length, slice_index_or};
-ghost use Rattle.model_specs.specs.Payments.{sojourn_at, sum_at, lumps_at};
+ghost use Rattle.std.specs.Prelude.{◌≡◌, ◌+◌, ◌-◌, ◌<◌, ◌≤◌, ℕ, pos, IfOk, [], length, slice_index_or};
+ghost use Rattle.model_specs.specs.Payments.{sojourn_at, sum_at, lumps_at, constant_step};
+ghost use Rattle.model_specs.specs.Cells.{Grid, amount_cell};
+ghost use Rattle.model_specs.specs.Growth.{load};
 ghost use Rattle.model_specs.specs.RecordRules.{IsBoundedStep};
 ghost use Rattle.payment_plan.specs.Records.{record_of, steps_of, sojourns_of, lumps_of, pattern_rule_of, payments_of};
 ghost use Rattle.payment_plan.specs.Payments.{IsAllowed, plan_of};
@@ -36,7 +38,9 @@ impl Model for Plan {
 
     ghost view = { λ p. payments_of p.states p.months p.sums.items p.sojourns.items p.lumps.items p.pattern };
 
-    ghost invariant = { λ p. KeepsTables (payments_of p.states p.months p.sums.items p.sojourns.items p.lumps.items p.pattern) (lists_of p.dated.items) p.payers.items };
+    ghost invariant = { λ p. KeepsTables
+        (payments_of p.states p.months p.sums.items p.sojourns.items p.lumps.items p.pattern)
+        (lists_of p.dated.items) p.payers.items };
 }
 
 // The steps of the rate of a state, and none where it has no sojourn.
@@ -121,6 +125,9 @@ impl Plan {
         ensures benefits { which ≡ Which.Benefits → record_of result ≡ sojourn_at (plan_of which self.now) state month }
         ensures pattern { which ≡ Which.Pattern → result.from ≡ 0 }
         ensures coefficients { result.c ≡ (sojourn_at (plan_of which self.now) state month).c }
+        ensures load { load (record_of result) month ≡ load (sojourn_at (plan_of which self.now) state month) month }
+        ensures amount { (grid : Grid) (cell : ℕ) → amount_cell grid (record_of result) month cell
+            ≡ amount_cell grid (sojourn_at (plan_of which self.now) state month) month cell }
         ensures started { result.from ≤ month }
         ensures bounded { IsBoundedStep result.c (month - result.from + 1) }
     {
@@ -135,9 +142,8 @@ impl Plan {
     pub fn sum_at(&self, which: Which, transition: usize, month: u32) -> StepAmount
         requires transition { transition < length self.now.sums }
         requires month { month < self.now.months }
-        ensures benefits { which ≡ Which.Benefits → record_of result ≡ sum_at (plan_of which self.now) transition month }
-        ensures pattern { which ≡ Which.Pattern → result.from ≡ 0 }
-        ensures coefficients { result.c ≡ (sum_at (plan_of which self.now) transition month).c }
+        ensures step { record_of result ≡ sum_at (plan_of which self.now) transition month }
+        ensures pattern { which ≡ Which.Pattern → record_of result ≡ constant_step 0 (pos 0) }
         ensures started { result.from ≤ month }
         ensures bounded { IsBoundedStep result.c (month - result.from + 1) }
     {

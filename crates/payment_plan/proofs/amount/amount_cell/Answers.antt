@@ -5,37 +5,23 @@ use Rattle.std.proofs.lemmas.Int.{to_z-of_z}
 use Rattle.frac_laws.specs.Fraction.{over, whole}
 use Rattle.frac_laws.specs.Polynomials.{all_over, shifted, stretched}
 use Rattle.poly_small.specs.WholePolynomials.{value_of_sizes}
-use Rattle.poly_small.proofs.Sixes.{six_of, six_are_all}
+use Rattle.poly_small.proofs.Sixes.{six_are_all}
 use Rattle.payment_plan.proofs.Shifts.{IsCell, cell_is_amount}
-use Rattle.payment_plan.proofs.Sizes.{FormsCell, shift_fits, cell_fits}
+use Rattle.payment_plan.proofs.Sizes.{forms_of, shift_fits, cell_fits}
 use Rattle.payment_plan.proofs.amount.amount_cell.Goals as goal
 
 pub shift-requires : goal.shift-requires
 shift-requires c =
     let four : length c.args.s.now.c ≡ 4 = search rules in
-    let k = c.args.month - c.args.s.now.from in
-    let origin = (c.args.month - c.args.s.now.from) * 32 + c.args.cell + 1 in
-    let forms : FormsCell c.args.s.now.c c.in_cells.result.c (c.args.month - c.args.s.now.from)
-    ((c.args.month - c.args.s.now.from) * 32 + c.args.cell + 1) =
-    record {
-      four = four;
-      bounded = c.requires.bounded.coefficients;
-      origin_within = omega (arith, c.requires.cell);
-      units = c.in_cells.ensures;
-    } in
+    let forms = forms_of c.args.s.now c.in_cells.result.c c.args.month c.args.cell four c.requires.bounded
+    c.requires.cell c.in_cells.ensures in
     omega (arith, shift_fits _ _ _ _ forms)
 
 pub reflect-requires : goal.reflect-requires
 reflect-requires c =
     let four : length c.args.s.now.c ≡ 4 = search rules in
-    let forms : FormsCell c.args.s.now.c c.in_cells.result.c (c.args.month - c.args.s.now.from)
-    ((c.args.month - c.args.s.now.from) * 32 + c.args.cell + 1) =
-    record {
-      four = four;
-      bounded = c.requires.bounded.coefficients;
-      origin_within = omega (arith, c.requires.cell);
-      units = c.in_cells.ensures;
-    } in
+    let forms = forms_of c.args.s.now c.in_cells.result.c c.args.month c.args.cell four c.requires.bounded
+    c.requires.cell c.in_cells.ensures in
     omega (arith, shift_fits _ _ _ _ forms, c.shift.ensures.size)
 
 pub returns-clause-polynomial : goal.returns-clause-polynomial
@@ -51,9 +37,8 @@ returns-clause-polynomial c =
     ((c.args.month - c.args.s.now.from) * 32 + c.args.cell + 1) =
     record {
       four = four;
-      six = six;
       shift = c.shift.ensures.polynomial (384 ^ 3)
-          ∙ ap (λ p. shifted (whole (pos ((c.args.month - c.args.s.now.from) * 32 + c.args.cell + 1))) (all_over (384 ^ 3) p)) c.in_cells.ensures;
+          ∙ ap (λ p. shifted (whole (pos origin)) (all_over (384 ^ 3) p)) c.in_cells.ensures;
       turn = c.reflect.ensures.polynomial (384 ^ 3);
     } in
     simp to_z-of_z
@@ -70,17 +55,9 @@ returns-clause-size c =
     let number-3 : FitsSigned w128 (get_or c.reflect.result.c 3 (pos 0)) = search rules in
     let four : length c.args.s.now.c ≡ 4 = search rules in
     let six : length c.reflect.result.c ≡ 6 = search rules in
-    let forms : FormsCell c.args.s.now.c c.in_cells.result.c (c.args.month - c.args.s.now.from)
-    ((c.args.month - c.args.s.now.from) * 32 + c.args.cell + 1) =
-    record {
-      four = four;
-      bounded = c.requires.bounded.coefficients;
-      origin_within = omega (arith, c.requires.cell);
-      units = c.in_cells.ensures;
-    } in
-    let fits = cell_fits c.args.s.now.c c.in_cells.result.c c.shift.result.c c.reflect.result.c
-    (c.args.month - c.args.s.now.from) ((c.args.month - c.args.s.now.from) * 32 + c.args.cell + 1) forms
-    c.shift.ensures.size (c.reflect.ensures.size 1) in
-    let same : value_of_sizes (take 4 (six_of c.reflect.result.c)) 1 ≡ value_of_sizes (take 4 c.reflect.result.c) 1 =
-    ap (λ p. value_of_sizes (take 4 p) 1) (sym (six_are_all c.reflect.result.c six)) in
+    let forms = forms_of c.args.s.now c.in_cells.result.c c.args.month c.args.cell four c.requires.bounded
+    c.requires.cell c.in_cells.ensures in
+    let fits = cell_fits _ _ c.shift.result.c c.reflect.result.c _ _ forms c.shift.ensures.size
+    (c.reflect.ensures.size 1) in
+    let same = ap (λ p. value_of_sizes (take 4 p) 1) (sym (six_are_all c.reflect.result.c six)) in
     simp to_z-of_z (omega (arith, fits, same))

@@ -20,6 +20,7 @@ returns c =
     let same : list_of (c.args.months + 1) (row_at c.deref.result.now c.args.states)
     ≡ list_of (suc c.args.months) (dated_lumps c.args.states (lumps_of c.args.lumps.now)) =
     ap (λ t. list_of (c.args.months + 1) (row_at t c.args.states)) items
-    ∙ list_of-agree (c.args.months + 1) _ _ (row_is c.write.new.table c.args.states c.args.months c.args.lumps.now table)
+    ∙ list_of-agree (c.args.months + 1) _ _
+    (row_is c.write.new.table c.args.states c.args.months c.args.lumps.now table)
     ∙ ap (λ n. list_of n (dated_lumps c.args.states (lumps_of c.args.lumps.now))) (add-one c.args.months) in
     rw same at c.rows.ensures

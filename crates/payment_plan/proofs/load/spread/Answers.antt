@@ -1,7 +1,7 @@
-use Rattle.std.proofs.Common.{◌-ℤ◌, FitsSigned, arith, rules}
+use Rattle.std.proofs.Common.{◌-ℤ◌, FitsSigned, rules}
 use Rattle.std.specs.Int.{w128}
-use Rattle.std.proofs.lemmas.Int.{to_z-of_z, fits_signed_from_abs}
-use Rattle.payment_plan.proofs.Extremes.{AreExtremes, extremes_apart, extremes_differ, cast_fits}
+use Rattle.std.proofs.lemmas.Int.{to_z-of_z}
+use Rattle.payment_plan.proofs.Extremes.{AreExtremes, difference_fits, extremes_differ, cast_fits}
 use Rattle.payment_plan.proofs.load.spread.Goals as goal
 
 pub overflow_sub-result : goal.overflow_sub-result
@@ -10,8 +10,7 @@ overflow_sub-result c =
     let wide-2 : FitsSigned w128 c.least.result = search rules in
     let extremes : AreExtremes c.args.numbers.now c.greatest.result c.least.result =
     record { within = c.requires; greatest = c.greatest.ensures; least = c.least.ensures } in
-    simp to_z-of_z
-    (fits_signed_from_abs w128 (c.greatest.result -ℤ c.least.result) (omega (arith, (extremes_apart _ _ _ extremes).1)))
+    simp to_z-of_z (difference_fits _ _ _ extremes)
 
 pub overflow_cast-result : goal.overflow_cast-result
 overflow_cast-result c =
@@ -19,8 +18,7 @@ overflow_cast-result c =
     let wide-2 : FitsSigned w128 c.least.result = search rules in
     let extremes : AreExtremes c.args.numbers.now c.greatest.result c.least.result =
     record { within = c.requires; greatest = c.greatest.ensures; least = c.least.ensures } in
-    let wide : FitsSigned w128 (c.greatest.result -ℤ c.least.result) =
-    fits_signed_from_abs w128 (c.greatest.result -ℤ c.least.result) (omega (arith, (extremes_apart _ _ _ extremes).1)) in
+    let wide : FitsSigned w128 (c.greatest.result -ℤ c.least.result) = difference_fits _ _ _ extremes in
     simp to_z-of_z (cast_fits _ _ _ extremes)
 
 pub returns : goal.returns
@@ -29,6 +27,5 @@ returns c =
     let wide-2 : FitsSigned w128 c.least.result = search rules in
     let extremes : AreExtremes c.args.numbers.now c.greatest.result c.least.result =
     record { within = c.requires; greatest = c.greatest.ensures; least = c.least.ensures } in
-    let wide : FitsSigned w128 (c.greatest.result -ℤ c.least.result) =
-    fits_signed_from_abs w128 (c.greatest.result -ℤ c.least.result) (omega (arith, (extremes_apart _ _ _ extremes).1)) in
+    let wide : FitsSigned w128 (c.greatest.result -ℤ c.least.result) = difference_fits _ _ _ extremes in
     simp to_z-of_z (extremes_differ _ _ _ extremes)

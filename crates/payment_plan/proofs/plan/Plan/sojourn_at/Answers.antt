@@ -1,8 +1,12 @@
-use Rattle.std.proofs.Common.{ap, ◌∙◌, sym, subst, arith, pos, false, ◌-◌, ◌+◌, ◌≡◌, Bool, true, refl, FitsSigned, rules}
+use Rattle.std.proofs.Common.{◌≡◌, ◌-◌, ◌+◌, pos, Bool, true, false, FitsSigned, arith, rules, refl, ap, sym, subst, ◌∙◌}
 use Rattle.std.specs.Int.{from_bool, w64}
 use Rattle.std.proofs.lemmas.Int.{to_z-of_z}
 use Rattle.model_specs.specs.Product.{Step}
-use Rattle.model_specs.specs.Payments.{step_at, constant_step}
+use Rattle.model_specs.specs.Payments.{step_at, sojourn_at, constant_step}
+use Rattle.model_specs.specs.Cells.{amount_cell}
+use Rattle.model_specs.specs.Growth.{load}
+use Rattle.payment_plan.specs.Payments.{pattern_of}
+use Rattle.payment_plan.proofs.Constants.{AreSameUnit, same_load, same_amount}
 use Rattle.model_specs.specs.RecordRules.{IsBoundedStep}
 use Rattle.payment_plan.specs.Records.{steps_of, record_of}
 use Rattle.payment_plan.specs.Steps.{HasGoodSteps, steps_in_state}
@@ -15,7 +19,8 @@ pub step_at-requires : goal.step_at-requires
 step_at-requires c =
     let steps_are = c.steps_of_state.ensures ∙ ap (λ s. steps_in_state s c.args.state) c.sojourns.ensures.sojourns in
     let good = good_sojourns c.args.self.now c.args.state c.sojourns.ensures.allowed.payments in
-    rw steps_are (first_start c.args.self.now.months c.args.month (steps_in_state c.args.self.now.sojourns c.args.state) good)
+    rw steps_are
+    (first_start c.args.self.now.months c.args.month (steps_in_state c.args.self.now.sojourns c.args.state) good)
 
 pub returns-in-Benefits : goal.returns-in-Benefits
 returns-in-Benefits c =
@@ -29,6 +34,8 @@ returns-in-Benefits c =
       benefits = λ _. step_is;
       pattern = λ other. cc;
       coefficients = ap (λ s. s.c) step_is;
+      load = ap (λ s. load s c.args.month) step_is;
+      amount = λ grid cell. ap (λ s. amount_cell grid s c.args.month cell) step_is;
       started = covers.started;
       bounded = covers.bounded;
     })
@@ -43,14 +50,22 @@ returns-in-Pattern c =
     let step : record_of c.constant.result
     ≡ constant_step 0 (unit_amount (pays_in_month c.args.self.now.pattern c.args.state c.args.month)) =
     simp to_z-of_z at c.constant.ensures ∙ ap (constant_step 0) amount in
+    let same : AreSameUnit (record_of c.constant.result)
+    (sojourn_at (pattern_of c.args.self.now) c.args.state c.args.month)
+    (pays_in_month c.args.self.now.pattern c.args.state c.args.month) =
+    record { first = ap (λ s. s.c) step; second = pattern_rate c.args.self.now c.args.state c.args.month } in
     let P : Step → Type 0 = λ s. IsBoundedStep s.c (c.args.month - c.constant.result.from + 1) in
     rw c.in-Pattern.is
     (record {
       benefits = λ other. cc;
       pattern = λ _. ap (λ s. s.from) step;
       coefficients = ap (λ s. s.c) step ∙ sym (pattern_rate c.args.self.now c.args.state c.args.month);
+      load = same_load _ _ _ c.args.month same;
+      amount = same_amount _ _ _ c.args.month same;
       started = omega (arith, ap (λ s. s.from) step);
-      bounded = subst P (sym step) (unit_bounded (pays_in_month c.args.self.now.pattern c.args.state c.args.month) (c.args.month - c.constant.result.from + 1));
+      bounded = subst P (sym step)
+          (unit_bounded (pays_in_month c.args.self.now.pattern c.args.state c.args.month)
+          (c.args.month - c.constant.result.from + 1));
     })
   where
     unit_is : (b : Bool) → pos (from_bool b) ≡ unit_amount b

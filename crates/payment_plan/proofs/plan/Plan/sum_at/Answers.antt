@@ -11,19 +11,20 @@ use Rattle.payment_plan.proofs.plan.Plan.sum_at.Goals as goal
 pub step_at-requires : goal.step_at-requires
 step_at-requires c =
     let good = good_sums c.args.self.now c.args.transition c.sums.ensures.allowed.payments c.requires.transition in
-    rw c.sums.ensures.steps (first_start c.args.self.now.months c.args.month (get_or c.args.self.now.sums c.args.transition []) good)
+    rw c.sums.ensures.steps
+    (first_start c.args.self.now.months c.args.month (get_or c.args.self.now.sums c.args.transition []) good)
 
 pub returns-in-Benefits : goal.returns-in-Benefits
 returns-in-Benefits c =
     let good : HasGoodSteps c.args.self.now.months (steps_of c.sums.result.now) =
-    rw c.sums.ensures.steps (good_sums c.args.self.now c.args.transition c.sums.ensures.allowed.payments c.requires.transition) in
+    rw c.sums.ensures.steps
+    (good_sums c.args.self.now c.args.transition c.sums.ensures.allowed.payments c.requires.transition) in
     let covers = c.step_at.ensures c.args.self.now.months good c.requires.month in
     let step_is = covers.step_is ∙ ap (λ steps. step_at steps c.args.month) c.sums.ensures.steps in
     rw c.in-Benefits.is
     (record {
-      benefits = λ _. step_is;
+      step = step_is;
       pattern = λ other. cc;
-      coefficients = ap (λ s. s.c) step_is;
       started = covers.started;
       bounded = covers.bounded;
     })

@@ -1,0 +1,14 @@
+-- What a command stands for.
+use Rattle.command_words.specs.declared.command.Command.{Command}
+use Rattle.command_words.specs.declared.command.Command.TheVariants as command
+use Rattle.command_words.specs.Readings.{Request, Check, Value, Reserves, Occupancy, Moments, Premium, Generate}
+
+-- the request of a command
+abbrev pub request_of : Command → Request
+request_of (command.Check file) = Check file.now
+request_of (command.Value file) = Value file.now
+request_of (command.Reserves file every) = Reserves file.now every
+request_of (command.Occupancy file every) = Occupancy file.now every
+request_of (command.Moments file every) = Moments file.now every
+request_of (command.Premium file) = Premium file.now
+request_of (command.Generate seed) = Generate seed

@@ -1,0 +1,52 @@
+-- What the words of the command line ask for. This product's own.
+use Rattle.std.specs.Prelude.{◌≡◌, ℕ, ◌<◌, ◌≤◌, ◌^◌, List, [], ◌∷◌, codes, decimal, length, String, string_bytes, map}
+use Rattle.std.specs.declared.alloc.Global.{Global}
+
+-- the bytes of the words
+abbrev pub words_of : List (String Global) → List (List ℕ)
+words_of words = map string_bytes words
+
+-- what can be asked for: of a file by its name; at each so many months; or of a seed
+pub data Request : Type 0 where
+  Check : List ℕ → Request
+  Value : List ℕ → Request
+  Reserves : List ℕ → ℕ → Request
+  Occupancy : List ℕ → ℕ → Request
+  Moments : List ℕ → ℕ → Request
+  Premium : List ℕ → Request
+  Generate : ℕ → Request
+
+-- the words are a command and the name of a file, which has at least one byte
+pub record AsksOfFile (words : List (List ℕ)) (command file : List ℕ) : Type 0 where
+  pub are : words ≡ command ∷ file ∷ []
+  pub named : 0 < length file
+
+-- the words are a command, the name of a file, and a number of months from 1 to 1200 in decimal
+pub record AsksAtDates (words : List (List ℕ)) (command file : List ℕ) (every : ℕ) : Type 0 where
+  pub are : words ≡ command ∷ file ∷ decimal every ∷ []
+  pub named : 0 < length file
+  pub least : 1 ≤ every
+  pub most : every ≤ 1200
+
+-- the words are `generate` and a number below 2^64 in decimal
+pub record AsksOfSeed (words : List (List ℕ)) (seed : ℕ) : Type 0 where
+  pub are : words ≡ codes "generate" ∷ decimal seed ∷ []
+  pub fits : seed < 2 ^ 64
+
+-- the words are read as this request; decimal numbers have no needless zeros
+abbrev pub AreReadAs : List (List ℕ) → Request → Type 0
+AreReadAs words (Check file) = AsksOfFile words (codes "check") file
+AreReadAs words (Value file) = AsksOfFile words (codes "value") file
+AreReadAs words (Reserves file every) = AsksAtDates words (codes "reserves") file every
+AreReadAs words (Occupancy file every) = AsksAtDates words (codes "occupancy") file every
+AreReadAs words (Moments file every) = AsksAtDates words (codes "moments") file every
+AreReadAs words (Premium file) = AsksOfFile words (codes "premium") file
+AreReadAs words (Generate seed) = AsksOfSeed words seed
+
+-- the words have a reading
+abbrev pub HaveReading : List (List ℕ) → Type 0
+HaveReading words = (request : Request) × AreReadAs words request
+
+-- words have at most one reading
+abbrev pub ReadingsAreOne : Type 0
+ReadingsAreOne = (words : List (List ℕ)) (a b : Request) → AreReadAs words a → AreReadAs words b → a ≡ b

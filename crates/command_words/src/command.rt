@@ -1,0 +1,93 @@
+//! The commands and their words.
+
+ghost use Rattle.std.specs.Prelude.{◌≡◌, ◌≢◌, ℕ, ◌≤◌, decimal, [], ◌∷◌, IfSome, IfNone};
+ghost use Rattle.command_words.specs.Commands.{request_of};
+ghost use Rattle.command_words.specs.Readings.{words_of, AreReadAs, HaveReading};
+
+use crate::number::number_of;
+
+// The most months between dates.
+const MOST_EVERY: u64 = 1200;
+
+/// What the words ask for. `EVERY` is a number of months from 1 to 1200.
+#[derive(Clone, Copy, Debug, PartialEq, Eq)]
+pub enum Command<'a> {
+    /// Check the product of the file and print its limits.
+    Check(&'a str),
+    /// The value at issue in the start state, the lump of month 0 included.
+    Value(&'a str),
+    /// The reserves of all states at dates 0, `EVERY`, 2 `EVERY` and so on, up to the term.
+    Reserves(&'a str, u32),
+    /// The occupancy probabilities at these dates, from the start state.
+    Occupancy(&'a str, u32),
+    /// First moment, second moment and variance at these dates.
+    Moments(&'a str, u32),
+    /// The equivalence premium of the premium pattern.
+    Premium(&'a str),
+    /// Print the product file that is generated from a seed.
+    Generate(u64),
+}
+
+// A command about one file, or one seed.
+fn two_words<'a>(command: &str, word: &'a str) -> Option<Command<'a>>
+    ensures some { IfSome result (λ read. AreReadAs (command.now ∷ word.now ∷ []) (request_of read)) }
+    ensures none { IfNone result (¬ HaveReading (command.now ∷ word.now ∷ [])) }
+{
+    if command == "generate" {
+        return match number_of(word) {
+            Some(seed) => Some(Command::Generate(seed)),
+            None => None,
+        };
+    }
+    if word.is_empty() {
+        return None;
+    }
+    match command {
+        "check" => Some(Command::Check(word)),
+        "value" => Some(Command::Value(word)),
+        "premium" => Some(Command::Premium(word)),
+        _ => None,
+    }
+}
+
+// The months between dates.
+fn months_of(word: &str) -> Option<u32>
+    ensures some { IfSome result (λ every. (word.now ≡ decimal every) × (1 ≤ every) × (every ≤ 1200)) }
+    ensures none { IfNone result ((every : ℕ) → 1 ≤ every → every ≤ 1200 → word.now ≢ decimal every) }
+{
+    match number_of(word) {
+        Some(every) if every >= 1 && every <= MOST_EVERY => Some(every as u32),
+        _ => None,
+    }
+}
+
+// A command about a file at dates.
+fn three_words<'a>(command: &str, file: &'a str, every: &str) -> Option<Command<'a>>
+    ensures some { IfSome result (λ read. AreReadAs (command.now ∷ file.now ∷ every.now ∷ []) (request_of read)) }
+    ensures none { IfNone result (¬ HaveReading (command.now ∷ file.now ∷ every.now ∷ [])) }
+{
+    let Some(every) = months_of(every) else {
+        return None;
+    };
+    if file.is_empty() {
+        return None;
+    }
+    match command {
+        "reserves" => Some(Command::Reserves(file, every)),
+        "occupancy" => Some(Command::Occupancy(file, every)),
+        "moments" => Some(Command::Moments(file, every)),
+        _ => None,
+    }
+}
+
+/// What the words ask for; `None` exactly where they have no reading. Takes no memory.
+pub fn read_words(words: &[String]) -> Option<Command<'_>>
+    ensures some { IfSome result (λ read. AreReadAs (words_of words.entry.now) (request_of read)) }
+    ensures none { IfNone result (¬ HaveReading (words_of words.entry.now)) }
+{
+    match words {
+        [command, word] => two_words(command.as_str(), word.as_str()),
+        [command, file, every] => three_words(command.as_str(), file.as_str(), every.as_str()),
+        _ => None,
+    }
+}

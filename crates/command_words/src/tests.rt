@@ -1,0 +1,55 @@
+use super::*;
+use std::alloc::{AllocError, Global};
+
+fn split(alloc: Global, line: &str) -> Result<Vec<String>, AllocError> {
+    let mut words = Vec::new(alloc);
+    for word in line.split(' ') {
+        words.push(String::from_str(alloc, word)?)?;
+    }
+    Ok(words)
+}
+
+#[test]
+fn words_and_their_readings(rt: HostRuntime) {
+    let cases = [
+        ("check a.toml", Some(Command::Check("a.toml"))),
+        ("value a.toml", Some(Command::Value("a.toml"))),
+        ("reserves a 12", Some(Command::Reserves("a", 12))),
+        ("occupancy a 1200", Some(Command::Occupancy("a", 1200))),
+        ("moments a 1", Some(Command::Moments("a", 1))),
+        ("premium a", Some(Command::Premium("a"))),
+        ("generate 0", Some(Command::Generate(0))),
+        (
+            "generate 18446744073709551615",
+            Some(Command::Generate(18_446_744_073_709_551_615)),
+        ),
+        ("generate 18446744073709551616", None),
+        ("generate 00", None),
+        ("generate +1", None),
+        ("generate -0", None),
+        ("reserves a 0", None),
+        ("reserves a 1201", None),
+        ("reserves a 012", None),
+        ("reserves a 1x", None),
+        ("moments  1", None),
+        ("value ", None),
+        ("value", None),
+        ("value a b", None),
+        ("Value a", None),
+        ("--help", None),
+        ("load 7", None),
+    ];
+    for (line, wanted) in cases {
+        let Ok(words) = split(rt.alloc(), line) else {
+            assert!(rt; false);
+            return;
+        };
+        assert_eq!(rt; read_words(&words), wanted);
+    }
+}
+
+#[test]
+fn no_words_have_no_reading(rt: HostRuntime) {
+    let words: Vec<String> = Vec::new(rt.alloc());
+    assert_eq!(rt; read_words(&words), None);
+}

@@ -1,0 +1,13 @@
+pub mod BoundLemmas
+pub mod Checks
+pub mod Given
+pub mod InOrder
+pub mod LumpLemmas
+pub mod MembersLemmas
+pub mod PayerLemmas
+pub mod PieceLemmas
+pub mod Pigeonhole
+pub mod SizeLemmas
+pub mod StateLemmas
+pub mod StepLemmas
+pub mod TransitionLemmas

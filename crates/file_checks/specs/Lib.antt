@@ -1,0 +1,4 @@
+pub mod Broken
+pub mod Lists
+pub mod Slots
+pub mod Texts

@@ -1,0 +1,12 @@
+pub mod Checks
+pub mod CurveRules
+pub mod HeadRules
+pub mod LumpRule
+pub mod Members
+pub mod PatternRules
+pub mod PaymentRules
+pub mod ReadInstances
+pub mod ReadLaws
+pub mod Reads
+pub mod TransitionRule
+pub mod Verdict

@@ -1,0 +1,52 @@
+-- Rule 7 of a product file: its transitions.
+use Rattle.std.specs.Prelude.{ℕ, ◌==◌, codes, List, [], ◌∷◌, length, map, take, Bool, not, ◌&&◌}
+use Rattle.std.specs.Prelude.{Option, is_some, unwrap_or}
+use Rattle.std.specs.List.{list_any}
+use Rattle.toml.specs.Data.{Data, Members, as_table}
+use Rattle.model_specs.specs.Whole.{list_of}
+use Rattle.product_file.specs.Members.{has_no_key_but, text_at, array_at, text_of, items_of, item_at, members_of}
+use Rattle.product_file.specs.HeadRules.{may_have_array, state_of}
+
+-- the keys of a transition
+abbrev pub transition_keys : List (List ℕ)
+transition_keys = codes "from" ∷ codes "to" ∷ codes "rate" ∷ codes "sum" ∷ []
+
+-- a transition is a table with these keys and types; `sum` may be absent
+abbrev pub is_transition : Data → Bool
+is_transition d =
+    let t = members_of d in
+    is_some (as_table d) && is_some (text_at (codes "from") t) && is_some (text_at (codes "to") t)
+    && is_some (array_at (codes "rate") t) && may_have_array (codes "sum") t && has_no_key_but transition_keys t
+
+-- the transitions of the file
+abbrev pub transition_items : Members → List Data
+transition_items tree = items_of (codes "transition") tree
+
+-- the state that a key of a table names
+abbrev pub state_at : Members → List ℕ → Data → Option ℕ
+state_at tree key d = state_of tree (text_of key (members_of d))
+
+-- its index, and 0 where it names none
+abbrev pub state_index : Members → List ℕ → Data → ℕ
+state_index tree key d = unwrap_or (state_at tree key d) 0
+
+-- from which state to which a transition leads
+abbrev pub pair_of : Members → Data → ℕ × ℕ
+pair_of tree d = (state_index tree (codes "from") d, state_index tree (codes "to") d)
+
+-- the pairs of states have the same parts
+abbrev pub is_same_pair : ℕ × ℕ → ℕ × ℕ → Bool
+is_same_pair x y = (x.0 == y.0) && (x.1 == y.1)
+
+-- a transition at a place is one, names two different states, and no earlier one has the same pair
+abbrev pub is_good_transition : Members → ℕ → Bool
+is_good_transition tree k =
+    let d = item_at (transition_items tree) k in
+    let pair = pair_of tree d in
+    is_transition d && is_some (state_at tree (codes "from") d) && is_some (state_at tree (codes "to") d)
+    && not (pair.0 == pair.1)
+    && not (list_any (is_same_pair pair) (map (pair_of tree) (take k (transition_items tree))))
+
+-- rule 7: each transition is good
+abbrev pub rule_7 : Members → List Bool
+rule_7 tree = list_of (length (transition_items tree)) (is_good_transition tree)

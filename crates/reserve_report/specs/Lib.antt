@@ -1,0 +1,4 @@
+pub mod CheckText
+pub mod Decimals
+pub mod ReportText
+pub mod Reports
