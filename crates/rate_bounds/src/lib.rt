@@ -27,3 +27,6 @@ pub use admission::{AdmitError, admit};
 pub use admitted::Admitted;
 pub use bounds::{MonthBounds, month_bounds};
 pub use curves::{MonthCurves, month_curves};
+
+#[cfg(test)]
+mod tests;

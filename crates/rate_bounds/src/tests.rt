@@ -1,0 +1,146 @@
+ghost use Rattle.std.specs.Prelude.{◌≡◌, ◌<◌, ◌≤◌, IfOk};
+ghost use Rattle.model_specs.specs.Product.{no_pattern};
+ghost use Rattle.payment_plan.specs.Records.{pattern_rule_of};
+
+use crate::{AdmitError, Admitted, MonthBounds, MonthCurves, admit, month_bounds, month_curves};
+use curve_pieces::{Curve, Piece};
+use ledger_laws::admissible_products_obey;
+use payment_plan::{Lump, PatternRule, Plan, Which};
+use product_model::{Product, RuleBreak};
+use state_graph::Graph;
+use std::alloc::Global;
+use std::test::Fail;
+
+// From month 0 on, a constant.
+fn constant(c: i64) -> Piece {
+    Piece {
+        from: 0,
+        c: [c, 0, 0, 0, 0, 0],
+    }
+}
+
+fn no_pattern(alloc: Global) -> PatternRule
+    ensures { pattern_rule_of result ≡ no_pattern }
+{
+    PatternRule {
+        payers: Vec::new(alloc),
+        until: 0,
+        every: 0,
+    }
+}
+
+// One state over a year, interest of 1/20, and 10000 at the term.
+fn discounted(alloc: Global) -> Result<Product, Fail>
+    ensures { IfOk result (λ p. p.months ≡ 12) }
+{
+    let on = b"on".to_vec(alloc)?;
+    let names = vec![in alloc; on]?;
+    let graph = Graph::new(alloc, names, Vec::new(alloc))?;
+    let interest = Curve::new(alloc, [constant(1)].to_vec(alloc)?, 12)?;
+    let lump = Lump {
+        month: 12,
+        state: 0,
+        amount: 10_000,
+    };
+    let lumps = [lump].to_vec(alloc)?;
+    let pattern = no_pattern(alloc);
+    let plan = Plan::new(
+        alloc,
+        1,
+        12,
+        Vec::new(alloc),
+        Vec::new(alloc),
+        lumps,
+        pattern,
+    )?;
+    let name = b"discounted".to_vec(alloc)?;
+    Ok(Product::new(name, graph, 0, 12, 20, interest, Vec::new(alloc), plan))
+}
+
+// Two states, and an intensity of 1 - t from the first to the second over 13 months.
+fn falling(alloc: Global) -> Result<Product, Fail>
+    ensures { IfOk result (λ p. p.months ≡ 13) }
+{
+    let on = b"on".to_vec(alloc)?;
+    let off = b"off".to_vec(alloc)?;
+    let names = vec![in alloc; on, off]?;
+    let graph = Graph::new(alloc, names, [(0, 1)].to_vec(alloc)?)?;
+    let interest = Curve::new(alloc, [constant(0)].to_vec(alloc)?, 13)?;
+    let rate = Piece {
+        from: 0,
+        c: [1, -1, 0, 0, 0, 0],
+    };
+    let rate = Curve::new(alloc, [rate].to_vec(alloc)?, 13)?;
+    let sums = vec![in alloc; Vec::new(alloc)]?;
+    let pattern = no_pattern(alloc);
+    let plan = Plan::new(
+        alloc,
+        2,
+        13,
+        sums,
+        Vec::new(alloc),
+        Vec::new(alloc),
+        pattern,
+    )?;
+    let name = b"falling".to_vec(alloc)?;
+    let rates = vec![in alloc; rate]?;
+    Ok(Product::new(name, graph, 0, 13, 1, interest, rates, plan))
+}
+
+// The bounds of a month without the table.
+fn bounds_anew(admitted: &Admitted, month: u32) -> MonthBounds
+    requires { month < admitted.now.months }
+{
+    admissible_products_obey();
+    month_bounds(admitted.product(), month)
+}
+
+#[test]
+fn a_discounted_lump(rt: HostRuntime) -> Result<(), Fail> {
+    let alloc = rt.alloc();
+    let admitted = admit(alloc, discounted(alloc)?)?;
+    // worked by hand
+    let wanted = MonthBounds {
+        rho: 0,
+        iota: 2_488_320,
+        nu: 0,
+        kappa40: 94_372,
+        pay1024: 0,
+        pattern1024: 0,
+    };
+    assert_eq!(rt; *admitted.bounds(11), wanted);
+    assert_eq!(rt; bounds_anew(&admitted, 11), wanted);
+    assert_eq!(rt; admitted.bound1024(Which::Benefits), 10_240_384);
+    assert_eq!(rt; admitted.scale(Which::Benefits), 14);
+    assert_eq!(rt; admitted.radius(0), 393_599);
+    assert_eq!(rt; admitted.radius_forward(12), 393_599);
+    assert_eq!(rt; admitted.radius_second(0), 393_604);
+    Ok(())
+}
+
+#[test]
+fn a_falling_intensity(rt: HostRuntime) -> Result<(), Fail> {
+    let alloc = rt.alloc();
+    let product = falling(alloc)?;
+    // numerators of 1 - t over 2488320
+    let wanted = MonthCurves {
+        rho: 2_488_320,
+        high: 0,
+        low: 0,
+        least: 2_280_960,
+    };
+    assert_eq!(rt; month_curves(&product, 0), wanted);
+    let wanted = MonthCurves {
+        rho: 207_360,
+        high: 0,
+        low: 0,
+        least: 0,
+    };
+    assert_eq!(rt; month_curves(&product, 11), wanted);
+    let broken = RuleBreak {
+        rule: 16,
+        place: 12,
+    };
+    assert_eq!(rt; admit(alloc, product).err(), Some(AdmitError::Rule(broken)));
+    Ok(())
+}
