@@ -8,3 +8,6 @@ mod report_text;
 pub use decimal::push_decimal;
 pub use report::{Kind, Report, Row, What};
 pub use report_text::report_bytes;
+
+#[cfg(test)]
+mod tests;
