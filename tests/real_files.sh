@@ -30,6 +30,20 @@ try() {
   fi
 }
 
+# name, the wanted first lines, then the words of a command that ends well
+try_start() {
+  local name=$1 start=$2
+  shift 2
+  local found
+  found=$("$program" "$@" 2>"$work/errors"; printf 'status %s' "$?")
+  if [ "${found#"$start"}" != "$found" ] && [ "${found##*$'\n'}" = 'status 0' ] && [ ! -s "$work/errors" ]; then
+    passed=$((passed + 1))
+  else
+    failed=$((failed + 1))
+    printf 'FAILED %s: wanted first\n%sfound\n%s\n' "$name" "$start" "$found"
+  fi
+}
+
 unbuilt=$'refused unbuilt\n'
 
 cat >"$work/lump.toml" <<'TOML'
@@ -67,6 +81,18 @@ try 'a word too few' 10 "$unbuilt" value
 try 'an unknown command' 10 "$unbuilt" price "$top/examples/flat.toml"
 try 'an empty name' 10 "$unbuilt" value ''
 try 'a word that is no text' 2 '' value $'\xff'
+
+# how each file of `files` is judged: `ok`, the product's name and how much it has of what; or the line that refuses it
+while read -r name verdict <&3; do
+  case $verdict in
+    ok\ *)
+      verdict=${verdict#ok }
+      try_start "$name" "check ${verdict%% *}"$'\n'"${verdict#* }"$'\n' check "$top/tests/files/$name"
+      ;;
+    'refused toml') try "$name" 5 "$verdict"$'\n' check "$top/tests/files/$name" ;;
+    *) try "$name" 6 "$verdict"$'\n' check "$top/tests/files/$name" ;;
+  esac
+done 3<"$top/tests/files/verdicts.txt"
 
 # a full device takes nothing
 "$program" value "$top/examples/flat.toml" >/dev/full 2>"$work/errors"

@@ -9,3 +9,6 @@ mod product;
 mod read;
 
 pub use read::{ReadError, read_product};
+
+#[cfg(test)]
+mod tests;

@@ -11,3 +11,6 @@ pub use check_text::check_bytes;
 pub use decimal::push_decimal;
 pub use report::{Kind, Report, Row, What};
 pub use report_text::report_bytes;
+
+#[cfg(test)]
+mod tests;

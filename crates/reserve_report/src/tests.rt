@@ -1,0 +1,97 @@
+use crate::{Kind, Report, Row, What, push_decimal, report_bytes};
+use curve_pieces::{Curve, Piece};
+use payment_plan::{Lump, PatternRule, Plan};
+use product_model::Product;
+use state_graph::Graph;
+use std::alloc::Global;
+use std::test::Fail;
+
+const AT_ISSUE: Row = Row {
+    month: 0,
+    state: 1,
+    what: What::Value,
+    lo: -1,
+    hi: 2,
+};
+
+const LATER: Row = Row {
+    month: 12,
+    state: 0,
+    what: What::Value,
+    lo: -1_234_567,
+    hi: 10_000_000,
+};
+
+const INTEREST: Piece = Piece {
+    from: 0,
+    c: [1, 0, 0, 0, 0, 0],
+};
+
+const RATE: Piece = Piece {
+    from: 0,
+    c: [2, 3, 0, 0, 0, 0],
+};
+
+const LUMP: Lump = Lump {
+    month: 24,
+    state: 1,
+    amount: 10_000,
+};
+
+// Two states and one transition over two years.
+fn endowment(alloc: Global) -> Result<Product, Fail> {
+    let on = b"on".to_vec(alloc)?;
+    let off = b"off".to_vec(alloc)?;
+    let names = vec![in alloc; on, off]?;
+    let graph = Graph::new(alloc, names, [(1, 0)].to_vec(alloc)?)?;
+    let interest = Curve::new(alloc, [INTEREST].to_vec(alloc)?, 24)?;
+    let rate = Curve::new(alloc, [RATE].to_vec(alloc)?, 24)?;
+    let sums = vec![in alloc; Vec::new(alloc)]?;
+    let pattern = PatternRule {
+        payers: [1].to_vec(alloc)?,
+        until: 12,
+        every: 0,
+    };
+    let plan = Plan::new(
+        alloc,
+        2,
+        24,
+        sums,
+        Vec::new(alloc),
+        [LUMP].to_vec(alloc)?,
+        pattern,
+    )?;
+    let name = b"endowment".to_vec(alloc)?;
+    let rates = vec![in alloc; rate]?;
+    Ok(Product::new(name, graph, 1, 24, 20, interest, rates, plan))
+}
+
+#[test]
+fn a_report_is_written(rt: HostRuntime) -> Result<(), Fail> {
+    let alloc = rt.alloc();
+    let product = endowment(alloc)?;
+    assert_eq!(rt; product.graph().states(), 2);
+    let report = Report {
+        kind: Kind::Value,
+        degree: 24,
+        scale: 10,
+        tolerance: [3, 11_234_567].to_vec(alloc)?,
+        rows: [AT_ISSUE, LATER].to_vec(alloc)?,
+    };
+    let text = report_bytes(alloc, &product, &report)?;
+    let wanted = b"report value endowment\n\
+        degree 24 scale 10\n\
+        0 off value -0.000001 0.000002 0.000003\n\
+        12 on value -1.234567 10.000000 11.234567\n\
+        end 2\n";
+    assert_eq!(rt; text.as_slice(), wanted.as_slice());
+    Ok(())
+}
+
+#[test]
+fn a_number_is_appended(rt: HostRuntime) -> Result<(), Fail> {
+    let mut text = b"end ".to_vec(rt.alloc())?;
+    push_decimal(rt.alloc(), &mut text, 1200)?;
+    assert_eq!(rt; text.as_slice(), b"end 1200".as_slice());
+    Ok(())
+}
