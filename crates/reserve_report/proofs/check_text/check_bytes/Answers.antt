@@ -6,4 +6,4 @@ use Rattle.reserve_report.proofs.check_text.check_bytes.Goals as goal
 pub returns : goal.returns
 returns c =
     subst (λ p. IfOk c.limits_text.result (λ text. text.items ≡ check_text p)) c.product.ensures.product
-        c.limits_text.ensures
+    c.limits_text.ensures

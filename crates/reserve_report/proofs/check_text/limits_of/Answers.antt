@@ -10,7 +10,7 @@ returns c = record {
   radius_is = c.radius.ensures.value;
   forward_is = c.radius_forward.ensures.value
       ∙ ap (λ m. radius_forward c.args.admitted.now m)
-          (c.months.ensures.value ∙ ap (λ p. p.months) c.product.ensures.product);
+      (c.months.ensures.value ∙ ap (λ p. p.months) c.product.ensures.product);
   second_is = c.radius_second.ensures.value;
   pattern_is = c.scale-2.ensures.value;
   most_scale = c.scale.ensures.most;
