@@ -1,3 +1,4 @@
+pub mod Endings
 pub mod FilePlans
 pub mod Growth
 pub mod OneCase

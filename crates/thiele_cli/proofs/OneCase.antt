@@ -14,7 +14,7 @@ use Rattle.thiele_cli.specs.declared.question.Question.{Question}
 use Rattle.thiele_cli.specs.declared.question.Question.TheVariants.{Limits, ValueAtIssue}
 use Rattle.thiele_cli.specs.Cases.{Files, AreTold, IsLong, AskOf, request_about, Case, NoReading, Unbuilt, TooLong}
 use Rattle.thiele_cli.specs.Cases.{NoToml, Broken, Checked, Valued, NotPlain, IsFileCase, IsCase, IsUnbuilt}
-use Rattle.thiele_cli.specs.Cases.{IsCaseOfFile, IsPlainProduct}
+use Rattle.thiele_cli.specs.Cases.{IsCaseOfFile, IsPlainProduct, AskOfFile}
 
 -- a reading is one thing
 ok-or-err : (r : Result Product RuleBreak) (p : Product) (b : RuleBreak) → r ≡ Ok p → r ≡ Err b → ⊥
@@ -191,10 +191,25 @@ told_case files words a b (by_file x) (by_request f y) = absurd (unbuilt_or_aske
 told_case files words a b (by_file x) (by_length f y) = absurd (not_long files words x.0 x.1 x.2 y)
 told_case files words a b (by_file x) (by_file y) =
     let s = same_bytes files words x.0 y.0 x.1 y.1 x.2 y.2 in
-    one_file_case y.0 y.1 a b (rw s at x.3) y.3
+    one_file_case y.0 y.1 a b (rw (s.0, s.1) at x.3) y.3
 
 -- words over told files are of one case
 pub one_case : (files : Files) (words : List (List ℕ)) (a b : Case) → IsSome files → IsCase files words a
     → IsCase files words b → a ≡ b
 one_case None words a b told x y = cc
 one_case (Some files) words a b told x y = told_case files words a b (case_by (Some files) words a x) (case_by (Some files) words b y)
+
+-- a request that is not built has one case, whatever is told
+pub unbuilt_case : (files : Files) (words : List (List ℕ)) (c : Case) (request : Request) → AreReadAs words request
+    → IsUnbuilt request → IsCase files words c → c ≡ Unbuilt
+unbuilt_case files words c request asked none h = by (case_by files words c h)
+  where
+    by : IsCaseBy files words c → c ≡ Unbuilt
+    by (by_words e x) = absurd (x (request, asked))
+    by (by_request e x) = e
+    by (by_length e x) = absurd (unbuilt_or_asked words x.0 x.1 x.2 (request, asked, none))
+    by (by_file x) = absurd (unbuilt_or_asked words x.0 x.2.name x.2.asked (request, asked, none))
+
+pub unbuilt_asks_no_file : (words : List (List ℕ)) (request : Request) → AreReadAs words request → IsUnbuilt request
+    → AskOfFile words → ⊥
+unbuilt_asks_no_file words request asked none x = unbuilt_or_asked words x.0 x.1 x.2 (request, asked, none)

@@ -1,6 +1,6 @@
 -- From what is planned for a file to what the words that name it lead to.
 use Rattle.std.proofs.Common.{◌≡◌, ℕ, ◌≤◌, List, [], ◌∷◌, ◌++◌, length, codes, decimal, refl, ap, sym, subst, ◌∙◌}
-use Rattle.std.specs.Prelude.{Bool, true, false, Option, Some, None, Ok, Err, Vec}
+use Rattle.std.specs.Prelude.{Bool, true, false, Option, Some, None, Result, Ok, Err, IfOk, Vec}
 use Rattle.std.specs.declared.alloc.Global.{Global}
 use Rattle.std.proofs.lemmas.Bool.{false≢true}
 use Rattle.io_ports.specs.Files.{AnswersFrom}
@@ -9,6 +9,7 @@ use Rattle.command_words.specs.Readings.{Request, AreReadAs}
 use Rattle.reserve_report.specs.declared.report.Report.{Report}
 use Rattle.thiele_cli.specs.declared.end.End.{End}
 use Rattle.thiele_cli.specs.declared.end.End.TheVariants as end
+use Rattle.thiele_cli.specs.declared.plan.Plan.{Plan}
 use Rattle.thiele_cli.specs.declared.question.Question.{Question}
 use Rattle.thiele_cli.specs.declared.question.Question.TheVariants.{Limits, ValueAtIssue}
 use Rattle.thiele_cli.specs.Cases.{Files, AreTold, IsLong, AskOf, request_about, Case, NoReading, Unbuilt, TooLong}
@@ -18,7 +19,7 @@ use Rattle.thiele_cli.specs.Outcome.{IsAnswer, Settles}
 use Rattle.thiele_cli.specs.Plans.{SettlesFile}
 
 -- the ends that cases have
-abbrev is_of_a_case : End → Bool
+abbrev pub is_of_a_case : End → Bool
 is_of_a_case end.FetchFault = false
 is_of_a_case end.WriteFault = false
 is_of_a_case end.Memory = false
@@ -116,3 +117,26 @@ pub settles_unbuilt : (files : Files) (words : List (List ℕ)) (request : Reque
 settles_unbuilt files words request asked none own report text e prints =
     answer_settles files words own report text
         (record { case = Unbuilt; holds = (request, asked, none); ends = e; says = prints })
+
+-- and its plan
+pub unbuilt_plan : {E : Type 0} (files : Files) (request : Request) (r : Result Plan E) → IsUnbuilt request
+    → IfOk r (λ plan. plan.end ≡ end.NotBuilt)
+    → IfOk r (λ plan. Prints plan.report plan.text.items (codes "refused unbuilt\n"))
+    → IfOk r (λ plan. (words : List (List ℕ)) → AreReadAs words request
+        → Settles files words plan.end plan.report plan.text.items)
+unbuilt_plan files request (Ok plan) none ends prints words asked =
+    settles_unbuilt files words request asked none plan.end plan.report plan.text.items ends prints
+unbuilt_plan files request (Err e) none ends prints = tt
+
+-- an end of a case that is settled has its answer
+pub answer_of : (files : Files) (words : List (List ℕ)) (own : End) (report : Option Report) (text : List ℕ)
+    → is_of_a_case own ≡ true → Settles files words own report text → IsAnswer files words own report text
+answer_of files words end.Done report text e s = s
+answer_of files words end.BadWords report text e s = s
+answer_of files words end.NotBuilt report text e s = s
+answer_of files words (end.TooLong seen) report text e s = s
+answer_of files words end.NotToml report text e s = s
+answer_of files words (end.Rule found) report text e s = s
+answer_of files words end.FetchFault report text e s = absurd (false≢true e)
+answer_of files words end.WriteFault report text e s = absurd (false≢true e)
+answer_of files words end.Memory report text e s = absurd (false≢true e)
