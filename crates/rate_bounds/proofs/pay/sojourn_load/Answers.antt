@@ -14,7 +14,8 @@ unfolding sojourn_load
 returns-clause-value c =
     let wide : FitsSigned w128 c.amount_load.result = search rules in
     simp to_z-of_z
-    (ap unsigned_abs c.amount_load.ensures.value
-    ∙ c.sojourn_at-step.ensures.load
-    ∙ ap (λ p. load (sojourn_at (plan_of c.args.which p) c.args.state c.args.month) c.args.month) c.plan.ensures.payments
-    ∙ ap (λ plan. load (sojourn_at plan c.args.state c.args.month) c.args.month) (plan_is c.args.which c.args.p.now))
+    (ap unsigned_abs c.amount_load.ensures.value ∙ c.sojourn_at-step.ensures.load
+    ∙ ap (λ p. load (sojourn_at (plan_of c.args.which p) c.args.state c.args.month) c.args.month)
+    c.plan.ensures.payments
+    ∙ ap (λ plan. load (sojourn_at plan c.args.state c.args.month) c.args.month)
+    (plan_is c.args.which c.args.p.now))

@@ -14,7 +14,8 @@ unfolding sum_load
 returns-clause-value c =
     let wide : FitsSigned w128 c.amount_load.result = search rules in
     simp to_z-of_z
-    (ap unsigned_abs c.amount_load.ensures.value
-    ∙ ap (λ s. load s c.args.month) c.sum_at-step.ensures.step
-    ∙ ap (λ p. load (sum_at (plan_of c.args.which p) c.args.transition c.args.month) c.args.month) c.plan.ensures.payments
-    ∙ ap (λ plan. load (sum_at plan c.args.transition c.args.month) c.args.month) (plan_is c.args.which c.args.p.now))
+    (ap unsigned_abs c.amount_load.ensures.value ∙ ap (λ s. load s c.args.month) c.sum_at-step.ensures.step
+    ∙ ap (λ p. load (sum_at (plan_of c.args.which p) c.args.transition c.args.month) c.args.month)
+    c.plan.ensures.payments
+    ∙ ap (λ plan. load (sum_at plan c.args.transition c.args.month) c.args.month)
+    (plan_is c.args.which c.args.p.now))
