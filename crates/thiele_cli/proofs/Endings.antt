@@ -175,7 +175,7 @@ completes files words failed now own report text product settles grew cause told
         (not_a_write_fault files words own report text settles)
 
 -- with a text to be written no name failed
-none_failed : (files : Files) (words : List (List ℕ)) (own : End) (report : Option Report) (text : List ℕ)
+pub none_failed : (files : Files) (words : List (List ℕ)) (own : End) (report : Option Report) (text : List ℕ)
     → Settles files words own report text → 0 < length text → failed_name own words ≡ []
 none_failed files words end.Done report text s some = refl
 none_failed files words end.BadWords report text s some = refl

@@ -124,8 +124,8 @@ pub unbuilt_plan : {E : Type 0} (files : Files) (request : Request) (r : Result 
     → IfOk r (λ plan. Prints plan.report plan.text.items (codes "refused unbuilt\n"))
     → IfOk r (λ plan. (words : List (List ℕ)) → AreReadAs words request
         → Settles files words plan.end plan.report plan.text.items)
-unbuilt_plan files request (Ok plan) none ends prints words asked =
-    settles_unbuilt files words request asked none plan.end plan.report plan.text.items ends prints
+unbuilt_plan files request (Ok plan) none ends prints =
+    λ words asked. settles_unbuilt files words request asked none plan.end plan.report plan.text.items ends prints
 unbuilt_plan files request (Err e) none ends prints = tt
 
 -- an end of a case that is settled has its answer

@@ -10,8 +10,9 @@ returns-in-Ok-file_plan-clause-settles g c words asked =
 
 pub returns-in-Ok-length_refusal-clause-settles : goal.returns-in-Ok-length_refusal-clause-settles
 returns-in-Ok-length_refusal-clause-settles g c words asked =
-    settles_long (g.H.Shelf.files c.args.shelf.now) words c.args.question c.args.name.now c.in-Err-TooLong.seen asked
-    (c.in-Err-TooLong.ensures.seen c.in-Err-TooLong.seen (ap (λ e. Err e) c.in-Err-TooLong.field-0-is))
+    let most = c.in-Err-TooLong.ensures.seen c.in-Err-TooLong.seen (ap (λ e. Err e) c.in-Err-TooLong.field-0-is) in
+    settles_long (g.H.Shelf.files c.args.shelf.now) words c.args.question c.args.name.now _ asked
+    (cc (c.in-Err-TooLong.seen-is, most))
     (long (g.H.Shelf.files c.args.shelf.now) c.args.name.now c.in-Err-TooLong.seen
         (rw c.in-Err-TooLong.field-0-is at c.in-Err-TooLong.ensures.told))
     _ _ _ c.in-Ok-length_refusal.ensures.end c.in-Ok-length_refusal.ensures.text

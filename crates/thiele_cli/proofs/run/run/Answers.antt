@@ -1,7 +1,7 @@
-use Rattle.std.proofs.Common.{refl, inl, inr}
+use Rattle.std.proofs.Common.{◌++◌, refl, ap, ◌∙◌}
 use Rattle.thiele_cli.specs.declared.end.End.TheVariants as end
 use Rattle.thiele_cli.proofs.Endings.{comes_by, not_a_write_fault, bad_words_written, bad_words_come, all_written}
-use Rattle.thiele_cli.proofs.Endings.{unbuilt_ends, completes, reported}
+use Rattle.thiele_cli.proofs.Endings.{unbuilt_ends, completes, reported, none_failed}
 use Rattle.thiele_cli.proofs.run.run.Goals as goal
 
 pub returns-in_default-clause-written : goal.returns-in_default-clause-written
@@ -68,3 +68,27 @@ pub returns-in-Ok-write_pieces-clause-complete : goal.returns-in-Ok-write_pieces
 returns-in-Ok-write_pieces-clause-complete g c product named told same no_rise =
     completes _ _ _ _ c.in-Ok.plan.end c.in-Ok.plan.report c.in-Ok.plan.text.items product
         (c.in-Ok.ensures.settles _ c.in-Some.ensures.some) (c.in-Ok.ensures.failed _ c.in-Some.ensures.some) named told same
+
+pub returns-clause-written : goal.returns-clause-written
+returns-clause-written g c = record {
+  planned = c.in-Ok.plan.end;
+  text = c.in-Ok.plan.text.items;
+  not_empty = rw c.deref.ensures.value at c.in-Err-write_pieces.ensures.some_text;
+  settles = c.in-Ok.ensures.settles _ c.in-Some.ensures.some;
+  grew = rw c.deref.ensures.value at c.in-Err-write_pieces.ensures.written_at_fault;
+}
+
+pub returns-clause-failed : goal.returns-clause-failed
+returns-clause-failed g c =
+    c.in-Ok.ensures.failed _ c.in-Some.ensures.some
+    ∙ ap (λ names. g.H.Shelf.failed c.args.shelf.now ++ names)
+        (none_failed _ _ c.in-Ok.plan.end c.in-Ok.plan.report c.in-Ok.plan.text.items
+            (c.in-Ok.ensures.settles _ c.in-Some.ensures.some)
+            (rw c.deref.ensures.value at c.in-Err-write_pieces.ensures.some_text))
+
+pub returns-clause-reported : goal.returns-clause-reported
+returns-clause-reported g c product named told fault =
+    reported _ _ _ _ c.in-Ok.plan.end c.in-Ok.plan.report c.in-Ok.plan.text.items product
+        (c.in-Ok.ensures.settles _ c.in-Some.ensures.some)
+        (rw c.deref.ensures.value at c.in-Err-write_pieces.ensures.some_text)
+        (c.in-Ok.ensures.failed _ c.in-Some.ensures.some) told named
