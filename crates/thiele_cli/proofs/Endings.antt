@@ -95,9 +95,11 @@ pub bad_words_written : (files : Files) (words : List (List ℕ)) (own : End) (r
     → (own ≡ end.WriteFault → AppendsPrefix old new (codes "refused words\n"))
     → Writes files words own report old new
 bad_words_written files words own report old new none (inl e) no_report all part =
-    subst (λ x. Writes files words x report old new) (sym e)
-        (codes "refused words\n", record { case = NoReading; holds = none; ends = refl; says = (no_report, refl) },
-            all (λ fault. cc (e, fault)))
+    subst (λ x. Writes files words x report old new) (sym e) (
+      codes "refused words\n",
+      record { case = NoReading; holds = none; ends = refl; says = (no_report, refl) },
+      all (λ fault. cc (e, fault)),
+    )
 bad_words_written files words own report old new none (inr e) no_report all part =
     subst (λ x. Writes files words x report old new) (sym e) (record {
       planned = end.BadWords;
@@ -171,8 +173,8 @@ pub completes : (files : Files) (words failed now : List (List ℕ)) (own : End)
     → (own ≡ end.Done) ⊎ (own ≡ end.Memory)
 completes files words failed now own report text product settles grew cause told same =
     done_or_memory own
-        (comes files words failed now own end.Done report text settles grew (done_by files words product cause) told same)
-        (not_a_write_fault files words own report text settles)
+    (comes files words failed now own end.Done report text settles grew (done_by files words product cause) told same)
+    (not_a_write_fault files words own report text settles)
 
 -- with a text to be written no name failed
 pub none_failed : (files : Files) (words : List (List ℕ)) (own : End) (report : Option Report) (text : List ℕ)
@@ -197,7 +199,7 @@ report-of : (files : Files) (words : List (List ℕ)) (own : End) (report : Opti
     → IsSome report
 report-of files words own report text product a told h =
     some_and report _ (subst (λ case. Answers case report text)
-        (one_case files words a.case (Valued product) told a.holds h) a.says)
+    (one_case files words a.case (Valued product) told a.holds h) a.says)
 
 pub reported : (files : Files) (words failed now : List (List ℕ)) (own : End) (report : Option Report)
     (text : List ℕ) (product : Product) → Settles files words own report text → 0 < length text

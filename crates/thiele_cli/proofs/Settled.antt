@@ -116,14 +116,14 @@ pub settles_unbuilt : (files : Files) (words : List (List ℕ)) (request : Reque
     → Prints report text (codes "refused unbuilt\n") → Settles files words own report text
 settles_unbuilt files words request asked none own report text e prints =
     answer_settles files words own report text
-        (record { case = Unbuilt; holds = (request, asked, none); ends = e; says = prints })
+    (record { case = Unbuilt; holds = (request, asked, none); ends = e; says = prints })
 
 -- and its plan
 pub unbuilt_plan : {E : Type 0} (files : Files) (request : Request) (r : Result Plan E) → IsUnbuilt request
     → IfOk r (λ plan. plan.end ≡ end.NotBuilt)
     → IfOk r (λ plan. Prints plan.report plan.text.items (codes "refused unbuilt\n"))
     → IfOk r (λ plan. (words : List (List ℕ)) → AreReadAs words request
-        → Settles files words plan.end plan.report plan.text.items)
+    → Settles files words plan.end plan.report plan.text.items)
 unbuilt_plan files request (Ok plan) none ends prints =
     λ words asked. settles_unbuilt files words request asked none plan.end plan.report plan.text.items ends prints
 unbuilt_plan files request (Err e) none ends prints = tt

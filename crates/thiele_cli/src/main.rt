@@ -7,6 +7,8 @@ mod pieces;
 mod plan;
 mod question;
 mod run;
+#[cfg(test)]
+mod tests;
 mod valuation;
 
 use io_ports::{FileShelf, StdSink};

@@ -14,5 +14,5 @@ returns-in-Ok-length_refusal-clause-settles g c words asked =
     settles_long (g.H.Shelf.files c.args.shelf.now) words c.args.question c.args.name.now _ asked
     (cc (c.in-Err-TooLong.seen-is, most))
     (long (g.H.Shelf.files c.args.shelf.now) c.args.name.now c.in-Err-TooLong.seen
-        (rw c.in-Err-TooLong.field-0-is at c.in-Err-TooLong.ensures.told))
+    (rw c.in-Err-TooLong.field-0-is at c.in-Err-TooLong.ensures.told))
     _ _ _ c.in-Ok-length_refusal.ensures.end c.in-Ok-length_refusal.ensures.text
