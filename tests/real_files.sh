@@ -45,6 +45,7 @@ try_start() {
 }
 
 unbuilt=$'refused unbuilt\n'
+no_reading=$'refused words\n'
 
 cat >"$work/lump.toml" <<'TOML'
 format = 1
@@ -73,13 +74,14 @@ try 'a file of 1,048,577 bytes' 4 $'refused length 1048577\n' value "$work/long.
 try 'a file with a lump' 10 "$unbuilt" value "$work/lump.toml"
 try 'a file with interest' 0 "$interest" value "$top/examples/interest.toml"
 try 'a file cut inside a string' 5 $'refused toml\n' value "$work/cut.toml"
-try 'an empty file' 10 "$unbuilt" value /dev/null
+try 'an empty file' 6 $'refused rule 1 place 0\n' value /dev/null
 try 'a missing file' 3 '' value "$work/missing.toml"
 try 'a folder for a file' 3 '' value "$work"
-try 'no words' 10 "$unbuilt"
-try 'a word too few' 10 "$unbuilt" value
-try 'an unknown command' 10 "$unbuilt" price "$top/examples/flat.toml"
-try 'an empty name' 10 "$unbuilt" value ''
+try 'no words' 2 "$no_reading"
+try 'a word too few' 2 "$no_reading" value
+try 'an unknown command' 2 "$no_reading" price "$top/examples/flat.toml"
+try 'an empty name' 2 "$no_reading" value ''
+try 'a command that is not built' 10 "$unbuilt" reserves "$work/missing.toml" 12
 try 'a word that is no text' 2 '' value $'\xff'
 
 # how each file of `files` is judged: `ok`, the product's name and how much it has of what; or the line that refuses it
