@@ -1,5 +1,6 @@
 -- The first broken rule, from the rules of the months and the bound.
-use Rattle.std.specs.Prelude.{◌≡◌, ℕ, ◌<◌, ◌≤◌, ◌^◌, Bool, true, false, nat_le, if◌then◌else◌, Option, Some, None, option_map}
+use Rattle.std.specs.Prelude.{◌≡◌, ℕ, ◌<◌, ◌≤◌, ◌^◌, Bool, true, false, nat_le, if◌then◌else◌, Option, Some}
+use Rattle.std.specs.Prelude.{None, option_map}
 use Rattle.std.specs.Prelude.{find, not, [], ◌∷◌, refl}
 use Rattle.std.proofs.Common.{ap, sym, ◌∙◌, arith}
 use Rattle.std.proofs.lemmas.Bool.Decides.{nat_tests}
@@ -80,11 +81,13 @@ pub broken_at_the_end : (p : Product) (bound : ℕ) → None ≡ broken_by_month
 broken_at_the_end p bound none is above =
     only_last p none
     ∙ ap (λ b. first_given ((if nat_le b (2 ^ 66) then None else Some (record { rule = 18; place = 0 })) ∷ [])) (sym is)
-    ∙ ap (λ t. first_given ((if t then None else Some (record { rule = 18; place = 0 })) ∷ [])) (is_above bound (2 ^ 66) above)
+    ∙ ap (λ t. first_given ((if t then None else Some (record { rule = 18; place = 0 })) ∷ [])) (is_above bound (2
+    ^ 66) above)
 
 pub nothing_is_broken : (p : Product) (bound : ℕ) → None ≡ broken_by_month p → bound ≡ bound1024 p (payment_plan p)
     → bound ≤ 2 ^ 66 → first_broken p ≡ None
 nothing_is_broken p bound none is within =
     only_last p none
     ∙ ap (λ b. first_given ((if nat_le b (2 ^ 66) then None else Some (record { rule = 18; place = 0 })) ∷ [])) (sym is)
-    ∙ ap (λ t. first_given ((if t then None else Some (record { rule = 18; place = 0 })) ∷ [])) (is_within bound (2 ^ 66) within)
+    ∙ ap (λ t. first_given ((if t then None else Some (record { rule = 18; place = 0 })) ∷ [])) (is_within bound (2
+    ^ 66) within)

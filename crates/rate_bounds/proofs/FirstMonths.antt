@@ -4,7 +4,8 @@ use Rattle.std.specs.Prelude.{[], ◌∷◌, refl, cond}
 use Rattle.std.proofs.Common.{ap, sym, ◌∙◌, arith}
 use Rattle.model_specs.specs.Whole.{list_of}
 use Rattle.model_specs.specs.Product.{Product}
-use Rattle.model_specs.specs.ValuationRules.{broken_in_months, first_given, obeys_rule_15, obeys_rule_16, obeys_rule_17}
+use Rattle.model_specs.specs.ValuationRules.{broken_in_months, first_given, obeys_rule_15, obeys_rule_16}
+use Rattle.model_specs.specs.ValuationRules.{obeys_rule_17}
 use Rattle.rate_bounds.specs.Breaks.{first_breaking, broken_by_month}
 
 find_first : (P : ℕ → Bool) (n m : ℕ) (f : ℕ → ℕ) → m < n → P (f m) ≡ true → ((k : ℕ) → k < m → P (f k) ≡ false)

@@ -71,7 +71,8 @@ pub rule_15_is : (p : Product) (month unit : ℕ) (numbers : List ℤ) (whole lo
     → low ≡ least_whole numbers → high ≡ greatest_whole numbers
     → is_low ≡ int_le (neg_ℤ whole) (pos 50 *ℤ low) → is_high ≡ int_le (pos 4 *ℤ high) whole
     → (is_low && is_high) ≡ obeys_rule_15 p month
-rule_15_is p month unit numbers whole low high is_low is_high unit_is whole_is numbers_are low_is high_is low_answer high_answer =
+rule_15_is p month unit numbers whole low high is_low is_high unit_is whole_is numbers_are low_is high_is
+    low_answer high_answer =
     ap (λ b. b && is_high) (low_answer ∙ ap (λ z. int_le (neg_ℤ z) (pos 50 *ℤ low)) whole_is
     ∙ ap (λ z. int_le (neg_ℤ (pos unit)) (pos 50 *ℤ z)) low_is)
     ∙ ap (λ b. int_le (neg_ℤ (pos unit)) (pos 50 *ℤ least_whole numbers) && b)

@@ -50,7 +50,8 @@ rate_is_part : (p : Product) (month e : ℕ) → obeys_rule_16 p month ≡ true 
 unfolding rate_part
 rate_is_part p month e rule inside =
     natural_greatest (curve_numerators (transition_at p e).rate month)
-    (at_place (λ t. list_all (int_le (pos 0)) (curve_numerators t.rate month)) p.transitions e no_transition rule inside)
+    (at_place (λ t. list_all (int_le (pos 0)) (curve_numerators t.rate month)) p.transitions e no_transition rule
+    inside)
 
 natural_sum : (f : ℕ → ℤ) (g : ℕ → ℕ) (es : List ℕ) → All (λ e. f e ≡ pos (g e)) es
     → whole_sum (map f es) ≡ pos (sum (map g es))

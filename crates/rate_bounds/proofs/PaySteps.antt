@@ -1,70 +1,27 @@
 -- What exits and states pay, one more of them each time, and how little it is.
-use Rattle.std.proofs.Common.{◌≡◌, ℕ, ◌+◌, ◌*◌, ◌^◌, ◌<◌, ◌≤◌, List, [], ◌∷◌, ◌++◌, Bool, true, false}
+use Rattle.std.proofs.Common.{◌≡◌, ℕ, ◌+◌, ◌*◌, ◌^◌, ◌<◌, ◌≤◌, List, [], ◌∷◌, ◌++◌}
 use Rattle.std.proofs.Common.{arith, refl, ap, sym, ◌∙◌, get_or, max, take, drop, length, sum}
-use Rattle.std.specs.Prelude.{map, ◌==◌}
+use Rattle.std.specs.Prelude.{map}
 use Rattle.std.specs.Int.{div_ceil}
 use Rattle.std.proofs.lemmas.List.{take_more, map-append, take-append-drop}
 use Rattle.std.proofs.lemmas.List.Sums.{sum_by-append}
 use Rattle.model_specs.specs.Whole.{list_of, greatest_natural}
-use Rattle.model_specs.specs.Product.{Product, Step}
-use Rattle.model_specs.specs.Payments.{Plan, constant_step, sojourn_at, sum_at}
+use Rattle.model_specs.specs.Product.{Product}
+use Rattle.model_specs.specs.Payments.{Plan}
 use Rattle.model_specs.specs.MonthNumbers.{month_unit, exits}
 use Rattle.model_specs.specs.Growth.{load, state_pay, pay}
 use Rattle.model_specs.specs.RecordRules.{IsWellFormed}
 use Rattle.state_graph.specs.declared.exits.Edge.{Edge}
-use Rattle.payment_plan.specs.Payments.{Payments, plan_of, pattern_of}
-use Rattle.payment_plan.specs.Tables.{pays_in_month}
+use Rattle.payment_plan.specs.Payments.{plan_of}
 use Rattle.payment_plan.specs.declared.pattern.Which.{Which}
 use Rattle.payment_plan.specs.declared.pattern.Which.TheVariants.{Benefits, Pattern}
-use Rattle.payment_plan.proofs.Patterns.{unit_amount, pattern_rate}
 use Rattle.product_model.specs.Views.{payments_of}
 use Rattle.ledger_laws.specs.MonthLaws.{ObeysMonthRules}
 use Rattle.ledger_laws.specs.PaymentLaws.{PaymentsPayLittle, PatternPaysLittle}
-use Rattle.ledger_laws.proofs.Loads.{load_zero, load_one}
 use Rattle.rate_bounds.specs.MonthRates.{rate_part}
-use Rattle.rate_bounds.specs.MonthPay.{plan_named, sojourn_load, sum_load, exit_pay, exits_pay, paid_in_state, greatest_paid}
+use Rattle.rate_bounds.specs.MonthPay.{plan_named, sojourn_load, sum_load, exit_pay, exits_pay, paid_in_state}
+use Rattle.rate_bounds.specs.MonthPay.{greatest_paid}
 use Rattle.rate_bounds.proofs.LeastAndGreatest.{greatest_natural_more}
-
-constant_load : (s : Step) (month : ℕ) (b : Bool) → s.c ≡ (constant_step 0 (unit_amount b)).c
-    → load s month ≡ load (constant_step s.from (unit_amount b)) month
-constant_load s month b is = ap (λ c. load (record { from = s.from; c = c }) month) is
-
-unit_load : (from month : ℕ) (b : Bool) → load (constant_step from (unit_amount b)) month ≡ load (constant_step 0 (unit_amount b)) month
-unit_load from month true = load_one from month ∙ sym (load_one 0 month)
-unit_load from month false = load_zero from month ∙ sym (load_zero 0 month)
-
--- the load of a constant step goes by its coefficients
-same_load : (s t : Step) (month : ℕ) (b : Bool) → s.c ≡ t.c → t.c ≡ (constant_step 0 (unit_amount b)).c
-    → load s month ≡ load t month
-same_load s t month b same is =
-    constant_load s month b (same ∙ is) ∙ unit_load s.from month b
-    ∙ sym (constant_load t month b is ∙ unit_load t.from month b)
-
--- the step that a plan answers for a sojourn rate has the load of the rate
-pub load_of_sojourn : (which : Which) (p : Payments) (state month : ℕ) (s : Step)
-    → (which ≡ Benefits → s ≡ sojourn_at (plan_of which p) state month)
-    → s.c ≡ (sojourn_at (plan_of which p) state month).c
-    → load s month ≡ load (sojourn_at (plan_of which p) state month) month
-load_of_sojourn Benefits p state month s is same = ap (λ t. load t month) (is refl)
-load_of_sojourn Pattern p state month s is same =
-    same_load s (sojourn_at (pattern_of p) state month) month (pays_in_month p.pattern state month) same
-    (pattern_rate p state month)
-
-pattern_sum : (p : Payments) (e month : ℕ) → (sum_at (pattern_of p) e month).c ≡ (constant_step 0 (unit_amount false)).c
-pattern_sum p e month = cases (p.pattern.every == 0) refl
-  where
-    cases : (b : Bool) → (p.pattern.every == 0) ≡ b
-        → (sum_at (pattern_of p) e month).c ≡ (constant_step 0 (unit_amount false)).c
-    cases true h = rw h refl
-    cases false h = rw h refl
-
--- and so has the one for a sum
-pub load_of_sum : (which : Which) (p : Payments) (e month : ℕ) (s : Step)
-    → (which ≡ Benefits → s ≡ sum_at (plan_of which p) e month)
-    → s.c ≡ (sum_at (plan_of which p) e month).c → load s month ≡ load (sum_at (plan_of which p) e month) month
-load_of_sum Benefits p e month s is same = ap (λ t. load t month) (is refl)
-load_of_sum Pattern p e month s is same =
-    same_load s (sum_at (pattern_of p) e month) month false same (pattern_sum p e month)
 
 -- the plan of a product by its name
 pub plan_is : (which : Which) (p : Product) → plan_of which (payments_of p) ≡ plan_named which p
@@ -155,7 +112,8 @@ state_pay_is : (p : Product) (plan : Plan) (m i : ℕ) → state_pay p plan m i 
 unfolding paid_in_state exits_pay exit_pay sum_load sojourn_load rate_part
 state_pay_is p plan m i = refl
 
-pub pay_is : (p : Product) (plan : Plan) (m : ℕ) → pay p plan m ≡ div_ceil (1024 * greatest_paid p plan m) (192 * month_unit p)
+pub pay_is : (p : Product) (plan : Plan) (m : ℕ)
+    → pay p plan m ≡ div_ceil (1024 * greatest_paid p plan m) (192 * month_unit p)
 unfolding greatest_paid paid_in_state exits_pay exit_pay sum_load sojourn_load rate_part
 pay_is p plan m = refl
 

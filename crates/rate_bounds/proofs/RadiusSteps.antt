@@ -22,7 +22,8 @@ as_much a b most e h = omega arith
 pub radius_cells_fit : (p : Product) (month w cells kappa most : ℕ) → kappa ≡ kappa40 p month
     → ((k : ℕ) → k ≤ cells → radius_step p month w k ≤ most) → (k : ℕ) → k ≤ cells → grow_cells kappa 1024 w k ≤ most
 radius_cells_fit p month w cells kappa most h fits k within =
-    as_much (grow_cells kappa 1024 w k) (radius_step p month w k) most (radius_step_is p month w k kappa h) (fits k within)
+    as_much (grow_cells kappa 1024 w k) (radius_step p month w k) most (radius_step_is p month w k kappa h) (fits k
+    within)
 
 last_month : (months back month : ℕ) → back < months → month ≡ months - 1 - back → month ≡ months - suc back
 last_month months back month inside is = omega arith
@@ -35,7 +36,8 @@ pub radius_goes_back : (p : Product) (back month w : ℕ) → back < p.months �
 unfolding radius_step
 radius_goes_back p back month w inside month_is sofar =
     ap (λ x. grow_cells (kappa40 p month) 1024 x 32) sofar
-    ∙ ap (λ m. grow_cells (kappa40 p m) 1024 (radius_before_term p back) 32) (last_month p.months back month inside month_is)
+    ∙ ap (λ m. grow_cells (kappa40 p m) 1024 (radius_before_term p back) 32) (last_month p.months back month inside
+    month_is)
     ∙ ap (radius_before_term p) (sym (add-one back))
 
 pub radius_goes_forward : (p : Product) (month w : ℕ) → w ≡ radius_forward p month

@@ -1,5 +1,6 @@
 -- The second radius, month by month.
-use Rattle.std.proofs.Common.{◌≡◌, ℕ, ℤ, suc, ◌+◌, ◌-◌, ◌*◌, ◌^◌, ◌<◌, ◌≤◌, List, length, arith, ap, sym, ◌∙◌, add-one}
+use Rattle.std.proofs.Common.{◌≡◌, ℕ, ℤ, suc, ◌+◌, ◌-◌, ◌*◌, ◌^◌, ◌<◌, ◌≤◌, List, length, arith, ap, sym, ◌∙◌}
+use Rattle.std.proofs.Common.{add-one}
 use Rattle.std.specs.Prelude.{map, unsigned_abs}
 use Rattle.model_specs.specs.Whole.{greatest_natural}
 use Rattle.model_specs.specs.Product.{Product}
@@ -63,7 +64,8 @@ second_goes_back p plan G back month w second inside month_is first sofar =
     (s + date_adds (lumps_at (length p.states) plan (suc month)) (greatest_lump p plan (suc month))
     (radius_before_term p back) G) 32) sofar
     ∙ ap (λ m. second_grow_cells (kappa40 p m) (pay p plan m) G (radius_before_term p back)
-    (second_before_term p plan G back + date_adds (lumps_at (length p.states) plan (suc m)) (greatest_lump p plan (suc m))
+    (second_before_term p plan G back + date_adds (lumps_at (length p.states) plan (suc m)) (greatest_lump p plan
+    (suc m))
     (radius_before_term p back) G) 32) (last_month p.months back month inside month_is)
     ∙ ap (second_before_term p plan G) (sym (add-one back))
 
@@ -83,7 +85,8 @@ second_fits p G back month w second small inside month_is first sofar k within =
     (second + date_adds (lumps_at (length p.states) plan (suc month)) (greatest_lump p plan (suc month)) w G) k)
     (second_grow_cells (kappa40 p month) (pay p plan month) G (radius p (suc month))
     (second_before_term p plan G (p.months - suc month)
-    + date_adds (lumps_at (length p.states) plan (suc month)) (greatest_lump p plan (suc month)) (radius p (suc month)) G) k)
+    + date_adds (lumps_at (length p.states) plan (suc month)) (greatest_lump p plan (suc month)) (radius p (suc
+    month)) G) k)
     (ap (λ x. second_grow_cells (kappa40 p month) (pay p plan month) G x
     (second + date_adds (lumps_at (length p.states) plan (suc month)) (greatest_lump p plan (suc month)) x G) k)
     (first ∙ ap (radius_before_term p) after)

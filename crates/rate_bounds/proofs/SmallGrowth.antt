@@ -1,5 +1,6 @@
 -- The growth of a month in which rules 15 to 17 hold.
-use Rattle.std.proofs.Common.{◌≡◌, ℕ, ◌+◌, ◌*◌, ◌^◌, ◌<◌, ◌≤◌, ℤ, pos, negsuc, neg_ℤ, ◌≤ℤ◌, arith, refl, ap, sym, ◌∙◌, min, zero, suc, List}
+use Rattle.std.proofs.Common.{◌≡◌, ℕ, ◌+◌, ◌*◌, ◌^◌, ◌<◌, ◌≤◌, ℤ, pos, negsuc, neg_ℤ, ◌≤ℤ◌, arith, refl, ap}
+use Rattle.std.proofs.Common.{sym, ◌∙◌, min, zero, suc, List}
 use Rattle.std.specs.Prelude.{unsigned_abs, map}
 use Rattle.std.specs.Int.{div_ceil, int_min}
 use Rattle.std.proofs.lemmas.Int.{ints}

@@ -1,5 +1,6 @@
 -- The sizes of transition sums.
-use Rattle.std.proofs.Common.{◌≡◌, ℕ, zero, suc, ◌<◌, List, [], ◌∷◌, Bool, true, false, arith, refl, ap, sym, ◌∙◌, length}
+use Rattle.std.proofs.Common.{◌≡◌, ℕ, zero, suc, ◌<◌, List, [], ◌∷◌, Bool, true, false, arith, refl, ap, sym}
+use Rattle.std.proofs.Common.{◌∙◌, length}
 use Rattle.std.specs.Prelude.{map, slice_index_or, if◌then◌else◌, ◌==◌}
 use Rattle.model_specs.specs.Whole.{list_of, greatest_natural}
 use Rattle.model_specs.specs.Product.{Product, Transition, Step, transition_at, no_transition}
@@ -38,14 +39,16 @@ size_is : (p : Product) (e : ℕ) → e < length p.transitions
 unfolding sum_size_of sum_load
 size_is p e inside =
     size_by_loads p.months (transition_at p e).sum
-    ∙ ap (λ steps. greatest_natural (list_of p.months (λ m. load (step_at steps m) m))) (sym (sum_there p.transitions e inside))
+    ∙ ap (λ steps. greatest_natural (list_of p.months (λ m. load (step_at steps m) m))) (sym (sum_there
+    p.transitions e inside))
 
 pub sizes_are : (p : Product) → greatest_sum_size p (payment_plan p) ≡ greatest_sum p (payment_plan p)
 unfolding greatest_sum_size
 sizes_are p =
     let size : Transition → ℕ = λ t. sum_size p.months t.sum in
     ap greatest_natural
-    (sym (list_of-same (length p.transitions) (λ e. size (transition_at p e)) (sum_size_of p (payment_plan p)) (size_is p))
+    (sym (list_of-same (length p.transitions) (λ e. size (transition_at p e)) (sum_size_of p (payment_plan p))
+    (size_is p))
     ∙ sym (map-list_of size (length p.transitions) (transition_at p))
     ∙ ap (map size) (list_of_places p.transitions no_transition)
     ∙ sym (map_map (sum_size p.months) (λ t. t.sum) p.transitions))

@@ -14,13 +14,15 @@ radius_step product month w cells = grow_cells (kappa40 product month) 1024 w ce
 -- the bound ledger after the lumps of a month's end and some cells, from the end
 unfoldable pub bound_step : Product → Plan → ℕ → ℕ → ℕ → ℕ
 bound_step product plan month bound cells =
-    grow_cells (kappa40 product month) (pay product plan month) (bound + 1024 * greatest_lump product plan (suc month)) cells
+    grow_cells (kappa40 product month) (pay product plan month) (bound + 1024 * greatest_lump product plan (suc
+    month)) cells
 
 -- the second radius after the lumps of a month's end and some cells, from the end; G is 2^g
 unfoldable pub second_step : Product → Plan → ℕ → ℕ → ℕ → ℕ → ℕ → ℕ
 second_step product plan G month w second cells =
     second_grow_cells (kappa40 product month) (pay product plan month) G w
-    (second + date_adds (lumps_at (length product.states) plan (suc month)) (greatest_lump product plan (suc month)) w G)
+    (second + date_adds (lumps_at (length product.states) plan (suc month)) (greatest_lump product plan (suc
+    month)) w G)
     cells
 
 -- the size of a transition's sum, by its loads

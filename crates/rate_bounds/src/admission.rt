@@ -42,7 +42,8 @@ impl From<AllocError> for AdmitError {
 fn ledgers_by_rule_18(alloc: Global, p: &Product) -> Result<Ledgers, AdmitError>
     requires { broken_by_month p.now ≡ None }
     ensures ok { IfOk result (KeepsLedgers p.now) }
-    ensures rule { (broken : breaks.RuleBreak) → result ≡ Err (AdmitError.Rule broken) → first_broken p.now ≡ Some (break_of broken) }
+    ensures rule { (broken : breaks.RuleBreak) → result ≡ Err (AdmitError.Rule broken)
+        → first_broken p.now ≡ Some (break_of broken) }
 {
     let months = bounds_of_months(alloc, p)?;
     let bound = bound1024(p, &months, Which::Benefits);
@@ -55,7 +56,8 @@ fn ledgers_by_rule_18(alloc: Global, p: &Product) -> Result<Ledgers, AdmitError>
 // The ledgers of a product that obeys rules 15 to 18.
 fn ledgers_by_rules(alloc: Global, p: &Product) -> Result<Ledgers, AdmitError>
     ensures ok { IfOk result (KeepsLedgers p.now) }
-    ensures rule { (broken : breaks.RuleBreak) → result ≡ Err (AdmitError.Rule broken) → first_broken p.now ≡ Some (break_of broken) }
+    ensures rule { (broken : breaks.RuleBreak) → result ≡ Err (AdmitError.Rule broken)
+        → first_broken p.now ≡ Some (break_of broken) }
 {
     match broken_by_month(p) {
         Some(broken) => Err(AdmitError::Rule(broken)),
@@ -67,7 +69,8 @@ fn ledgers_by_rules(alloc: Global, p: &Product) -> Result<Ledgers, AdmitError>
 pub fn admit(alloc: Global, p: Product) -> Result<Admitted, AdmitError>
     ensures ok { IfOk result (λ a. a ≡ p) }
     ensures admissible { IfOk result (λ _. IsAdmissible p) }
-    ensures rule { (broken : breaks.RuleBreak) → result ≡ Err (AdmitError.Rule broken) → first_broken p ≡ Some (break_of broken) }
+    ensures rule { (broken : breaks.RuleBreak) → result ≡ Err (AdmitError.Rule broken)
+        → first_broken p ≡ Some (break_of broken) }
 {
     match ledgers_by_rules(alloc, &p) {
         Ok(ledgers) => Ok(Admitted::of(p, ledgers)),

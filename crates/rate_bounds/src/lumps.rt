@@ -42,7 +42,8 @@ pub(crate) fn greatest_lump(p: &Product, which: Which, date: u32) -> u64
 pub(crate) fn date_adds(lumps: &[(usize, i64)], w: u128, largest: u128) -> u128
     requires radius { w ≤ 2 ^ 40 }
     requires some { 1 ≤ largest }
-    ensures { result ≡ ledgers.date_adds lumps.now (greatest_natural (map (λ l. unsigned_abs l.1) lumps.now)) w largest }
+    ensures { result
+        ≡ ledgers.date_adds lumps.now (greatest_natural (map (λ l. unsigned_abs l.1) lumps.now)) w largest }
 {
     if lumps.is_empty() {
         0

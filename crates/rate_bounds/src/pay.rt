@@ -3,7 +3,8 @@
 ghost use Rattle.std.specs.Prelude.{◌≡◌, ℕ, ◌*◌, ◌^◌, ◌<◌, ◌≤◌, All, length, map};
 ghost use Rattle.model_specs.specs.Growth.{pay};
 ghost use Rattle.ledger_laws.specs.MonthLaws.{ObeysMonthRules};
-ghost use Rattle.rate_bounds.specs.MonthPay.{plan_named, sojourn_load, sum_load, exit_pay, exits_pay, paid_in_state, greatest_paid};
+ghost use Rattle.rate_bounds.specs.MonthPay.{plan_named, sojourn_load, sum_load, exits_pay};
+ghost use Rattle.rate_bounds.specs.MonthPay.{paid_in_state, greatest_paid};
 
 use crate::exits::exits_of;
 use crate::rates::{month_unit, rate_part};

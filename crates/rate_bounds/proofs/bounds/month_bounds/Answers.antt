@@ -13,7 +13,11 @@ returns-clause-rho c =
 pub returns-clause-iota : goal.returns-clause-iota
 returns-clause-iota c =
     let numbers = c.month_numbers-numbers.ensures in
-    to_z_pos w128 c.month_numbers-numbers.result.iota (omega (arith, numbers.little.iota_most, numbers.little.unit_most))
+    to_z_pos w128 c.month_numbers-numbers.result.iota (omega (
+      arith,
+      numbers.little.iota_most,
+      numbers.little.unit_most,
+    ))
     ∙ ap pos numbers.iota
 
 pub returns-clause-nu : goal.returns-clause-nu

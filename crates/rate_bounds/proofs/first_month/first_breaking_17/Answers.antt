@@ -10,9 +10,11 @@ loop-month-preserved c =
 
 pub returns-then-not-obeys_rule_17 : goal.returns-then-not-obeys_rule_17
 returns-then-not-obeys_rule_17 c =
-    first_is_found (obeys_rule_17 c.args.p.now) c.args.p.now.months c.loop-month.month c.obeys_rule_17.result (omega arith)
+    first_is_found (obeys_rule_17 c.args.p.now) c.args.p.now.months c.loop-month.month c.obeys_rule_17.result
+    (omega arith)
     c.obeys_rule_17.ensures c.if-not-obeys_rule_17.true c.loop-month.invariant
 
 pub returns : goal.returns
 returns c =
-    none_is_found (obeys_rule_17 c.args.p.now) c.args.p.now.months c.loop-month.month (omega arith) c.loop-month.invariant
+    none_is_found (obeys_rule_17 c.args.p.now) c.args.p.now.months c.loop-month.month (omega arith)
+    c.loop-month.invariant

@@ -21,5 +21,6 @@ returns c =
       unit_is = c.month_unit-unit.ensures.value;
       unit_most = c.month_unit-unit.ensures.most;
       rules = c.requires.rules;
-      small = c.month_numbers_are_small.ensures c.args.p.now c.args.month c.month_unit-unit.ensures.lawful c.requires.rules;
+      small = c.month_numbers_are_small.ensures c.args.p.now c.args.month c.month_unit-unit.ensures.lawful
+          c.requires.rules;
     })

@@ -10,7 +10,8 @@ loop-exit-init c = refl
 pub overflow_mul-sum : goal.overflow_mul-sum
 overflow_mul-sum c =
     let fits : c.loop-exit.sum + c.rate_part-rate.result * c.sum_load-load.result < 2 ^ 127 =
-    exits_pay_fits c.args.p.now (plan_named c.args.which c.args.p.now) c.args.month c.args.exits.now c.loop-exit.exit-index
+    exits_pay_fits c.args.p.now (plan_named c.args.which c.args.p.now) c.args.month c.args.exits.now
+    c.loop-exit.exit-index
     _ _ _ _ c.loop-exit-test.true c.loop-exit.invariant c.rate_part-rate.ensures.value c.sum_load-load.ensures.value
     c.requires.fits in
     omega arith
@@ -18,12 +19,14 @@ overflow_mul-sum c =
 pub overflow_add-sum : goal.overflow_add-sum
 overflow_add-sum c =
     let fits : c.loop-exit.sum + c.rate_part-rate.result * c.sum_load-load.result < 2 ^ 127 =
-    exits_pay_fits c.args.p.now (plan_named c.args.which c.args.p.now) c.args.month c.args.exits.now c.loop-exit.exit-index
+    exits_pay_fits c.args.p.now (plan_named c.args.which c.args.p.now) c.args.month c.args.exits.now
+    c.loop-exit.exit-index
     _ _ _ _ c.loop-exit-test.true c.loop-exit.invariant c.rate_part-rate.ensures.value c.sum_load-load.ensures.value
     c.requires.fits in
     omega arith
 
 pub loop-exit-preserved : goal.loop-exit-preserved
 loop-exit-preserved c =
-    exits_pay_step c.args.p.now (plan_named c.args.which c.args.p.now) c.args.month c.args.exits.now c.loop-exit.exit-index
+    exits_pay_step c.args.p.now (plan_named c.args.which c.args.p.now) c.args.month c.args.exits.now
+    c.loop-exit.exit-index
     _ _ _ _ c.loop-exit-test.true c.loop-exit.invariant c.rate_part-rate.ensures.value c.sum_load-load.ensures.value

@@ -8,7 +8,8 @@ pub loop-state-preserved : goal.loop-state-preserved
 loop-state-preserved c =
     let plan = plan_named c.args.which c.args.p.now in
     let states = ap (λ g. length g.names) c.graph.ensures.graph in
-    let fits : paid_in_state c.args.p.now (plan_named c.args.which c.args.p.now) c.args.month c.loop-state.state < 2 ^ 117 =
+    let fits : paid_in_state c.args.p.now (plan_named c.args.which c.args.p.now) c.args.month c.loop-state.state <
+    2 ^ 117 =
     c.requires.fits c.loop-state.state (omega (arith, states)) in
     record {
       greatest = c.max-most.ensures
@@ -22,6 +23,10 @@ unfolding greatest_paid
 returns-clause-value c =
     let plan = plan_named c.args.which c.args.p.now in
     let states = ap (λ g. length g.names) c.graph.ensures.graph in
-    let all : c.loop-state.state ≡ length c.args.p.now.states = omega (arith, states, c.states-state-end.ensures.count) in
+    let all : c.loop-state.state ≡ length c.args.p.now.states = omega (
+      arith,
+      states,
+      c.states-state-end.ensures.count,
+    ) in
     c.loop-state.invariant.greatest
     ∙ ap (λ n. greatest_natural (list_of n (paid_in_state c.args.p.now plan c.args.month))) all

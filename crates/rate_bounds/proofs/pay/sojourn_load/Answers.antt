@@ -4,10 +4,9 @@ use Rattle.std.specs.Int.{w128}
 use Rattle.std.proofs.lemmas.Int.{to_z-of_z}
 use Rattle.model_specs.specs.Payments.{sojourn_at}
 use Rattle.model_specs.specs.Growth.{load}
-use Rattle.payment_plan.specs.Records.{record_of}
 use Rattle.payment_plan.specs.Payments.{plan_of}
 use Rattle.rate_bounds.specs.MonthPay.{sojourn_load}
-use Rattle.rate_bounds.proofs.PaySteps.{load_of_sojourn, plan_is}
+use Rattle.rate_bounds.proofs.PaySteps.{plan_is}
 use Rattle.rate_bounds.proofs.pay.sojourn_load.Goals as goal
 
 pub returns-clause-value : goal.returns-clause-value
@@ -15,8 +14,8 @@ unfolding sojourn_load
 returns-clause-value c =
     let wide : FitsSigned w128 c.amount_load.result = search rules in
     simp to_z-of_z
-    (ap unsigned_abs c.amount_load.ensures.value
-    ∙ load_of_sojourn c.args.which c.plan.result.now c.args.state c.args.month (record_of c.sojourn_at-step.result)
-    c.sojourn_at-step.ensures.benefits c.sojourn_at-step.ensures.coefficients
-    ∙ ap (λ p. load (sojourn_at (plan_of c.args.which p) c.args.state c.args.month) c.args.month) c.plan.ensures.payments
-    ∙ ap (λ plan. load (sojourn_at plan c.args.state c.args.month) c.args.month) (plan_is c.args.which c.args.p.now))
+    (ap unsigned_abs c.amount_load.ensures.value ∙ c.sojourn_at-step.ensures.load
+    ∙ ap (λ p. load (sojourn_at (plan_of c.args.which p) c.args.state c.args.month) c.args.month)
+    c.plan.ensures.payments
+    ∙ ap (λ plan. load (sojourn_at plan c.args.state c.args.month) c.args.month)
+    (plan_is c.args.which c.args.p.now))

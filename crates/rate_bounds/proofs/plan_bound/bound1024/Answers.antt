@@ -22,7 +22,8 @@ loop-back-preserved c =
 
 pub overflow_add-result : goal.overflow_add-result
 overflow_add-result c =
-    whole_fits (c.loop-back.bound + 1024 * c.from.result) (bound1024 c.args.p.now (plan_named c.args.which c.args.p.now))
+    whole_fits (c.loop-back.bound + 1024 * c.from.result) (bound1024 c.args.p.now (plan_named c.args.which
+    c.args.p.now))
     (bound_is_whole c.args.p.now (plan_named c.args.which c.args.p.now) c.loop-back.back c.loop-back.bound c.from.result
     (omega arith) c.loop-back.invariant (c.from.ensures ∙ c.greatest_lump.ensures))
     (bound_is_small c.plan_bound_stays_small.ensures.payments c.pattern_bound_stays_small.ensures c.args.which

@@ -9,4 +9,5 @@ grow_cells-requires-clause-fits c =
 
 pub returns : goal.returns
 returns c =
-    c.grow_cells.ensures ∙ radius_step_is c.args.p.now c.args.month c.args.w 32 c.kappa_at.result c.kappa_at.ensures.value
+    c.grow_cells.ensures ∙ radius_step_is c.args.p.now c.args.month c.args.w 32 c.kappa_at.result
+    c.kappa_at.ensures.value

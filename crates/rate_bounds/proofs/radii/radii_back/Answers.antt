@@ -25,5 +25,6 @@ loop-back-preserved c =
 pub returns : goal.returns
 returns c =
     let months = c.months-months.ensures.value in
-    all_dates (radius_before_term c.args.p.now) c.args.p.now.months c.loop-back.back c.loop-back.w c.loop-back.radii.items _ (omega arith)
+    all_dates (radius_before_term c.args.p.now) c.args.p.now.months c.loop-back.back c.loop-back.w
+    c.loop-back.radii.items _ (omega arith)
     c.loop-back.invariant.dates c.loop-back.invariant.next c.in_ok-push-2.ensures.items

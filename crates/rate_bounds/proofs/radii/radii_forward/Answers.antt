@@ -21,5 +21,6 @@ loop-month-preserved c = record {
 pub returns : goal.returns
 returns c =
     let months = c.months-months.ensures.value in
-    all_dates (radius_forward c.args.p.now) c.args.p.now.months c.loop-month.month c.loop-month.w c.loop-month.radii.items _ (omega arith)
+    all_dates (radius_forward c.args.p.now) c.args.p.now.months c.loop-month.month c.loop-month.w
+    c.loop-month.radii.items _ (omega arith)
     c.loop-month.invariant.dates c.loop-month.invariant.next c.in_ok-push-2.ensures.items

@@ -7,7 +7,8 @@ use Rattle.rate_bounds.proofs.rates.greatest_exit_sum.Goals as goal
 pub loop-state-preserved : goal.loop-state-preserved
 loop-state-preserved c =
     c.max-most.ensures
-    ∙ greatest_more c.loop-state.state (exit_sum c.args.p.now c.args.month) c.loop-state.most c.exit_sum.result (2 ^ 126)
+    ∙ greatest_more c.loop-state.state (exit_sum c.args.p.now c.args.month) c.loop-state.most c.exit_sum.result (2
+    ^ 126)
     c.loop-state.invariant c.exit_sum.ensures
 
 pub returns : goal.returns

@@ -18,7 +18,8 @@ loop-transition-preserved c =
     let wide-least : FitsSigned w128 c.least_of.result = search rules in
     let least = simp to_z-of_z at c.min-lowest.ensures.value in
     simp to_z-of_z
-    (least_more_at c.loop-transition.transition (least_of c.args.p.now c.args.month) _ _ _ c.loop-transition.auto.transition
+    (least_more_at c.loop-transition.transition (least_of c.args.p.now c.args.month) _ _ _
+    c.loop-transition.auto.transition
     c.loop-transition.invariant c.least_of.ensures least)
 
 pub returns : goal.returns

@@ -10,5 +10,6 @@ loop-exit-init c = refl
 pub loop-exit-preserved : goal.loop-exit-preserved
 loop-exit-preserved c =
     c.min-sum.ensures
-    ∙ rate_sum_more c.args.p.now c.args.month c.args.exits.now c.loop-exit.exit-index _ c.loop-exit.sum c.rate_part.result
+    ∙ rate_sum_more c.args.p.now c.args.month c.args.exits.now c.loop-exit.exit-index _ c.loop-exit.sum
+    c.rate_part.result
     (2 ^ 126) c.loop-exit-test.true c.loop-exit.invariant c.rate_part.ensures.value

@@ -28,7 +28,8 @@ pub second_grow_cells-requires-clause-fits : goal.second_grow_cells-requires-cla
 second_grow_cells-requires-clause-fits c = record {
   first = radius_cells_fit c.args.p.now c.args.month c.args.w 32 c.kappa_at-kappa40.result (2 ^ 40)
       c.kappa_at-kappa40.ensures.value c.requires.first;
-  second = second_cells_fit c.args.p.now (payment_plan c.args.p.now) c.args.largest c.args.month c.args.w c.args.second 32
+  second = second_cells_fit c.args.p.now (payment_plan c.args.p.now) c.args.largest c.args.month c.args.w
+      c.args.second 32
       c.kappa_at-kappa40.result c.pay_at-pay.result c.date_adds-adds.result c.lumps_of.result.now
       (record {
         kappa_is = c.kappa_at-kappa40.ensures.value;

@@ -36,7 +36,8 @@ month_back-second-requires-clause-fits c =
     (omega arith) (omega arith)
     (radius_there c.args.p.now c.args.radii.now c.loop-back.back c.requires.radii (omega arith))
     (c.loop-back.invariant.next
-    ∙ ap (λ G. second_before_term c.args.p.now (payment_plan c.args.p.now) G c.loop-back.back) (sym c.pow-largest.ensures))
+    ∙ ap (λ G. second_before_term c.args.p.now (payment_plan c.args.p.now) G c.loop-back.back) (sym
+    c.pow-largest.ensures))
 
 pub loop-back-preserved : goal.loop-back-preserved
 loop-back-preserved c =
@@ -47,7 +48,8 @@ loop-back-preserved c =
           c.loop-back.invariant.dates c.loop-back.invariant.next c.in_ok-push.ensures.items;
       next = c.month_back-second.ensures
           ∙ second_goes_back c.args.p.now (payment_plan c.args.p.now) c.pow-largest.result c.loop-back.back
-          (c.months-months.result - 1 - c.loop-back.back) (get_or c.args.radii.now c.loop-back.back 0) c.loop-back.second
+          (c.months-months.result - 1 - c.loop-back.back) (get_or c.args.radii.now c.loop-back.back 0)
+          c.loop-back.second
           (omega arith) (omega arith)
           (radius_there c.args.p.now c.args.radii.now c.loop-back.back c.requires.radii (omega arith))
           (c.loop-back.invariant.next

@@ -6,7 +6,8 @@ use Rattle.rate_bounds.proofs.admitted.Admitted.radius.Goals as goal
 pub index-requires : goal.index-requires
 index-requires c =
     let p = c.self.inside.product in
-    let count = numbers_count (radius_before_term p) (suc p.months) c.self.inside.ledgers.radii.items c.self.invariant.ledgers.backward in
+    let count = numbers_count (radius_before_term p) (suc p.months) c.self.inside.ledgers.radii.items
+    c.self.invariant.ledgers.backward in
     omega (arith, count, c.months.ensures.value)
 
 pub returns-clause-value : goal.returns-clause-value

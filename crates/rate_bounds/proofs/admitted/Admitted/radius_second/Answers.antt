@@ -16,7 +16,8 @@ returns-clause-value c =
     let p = c.self.inside.product in
     let months = c.months.ensures.value in
     number_there (second_before_term p (payment_plan p) (2 ^ scale p (payment_plan p))) (suc p.months)
-    (c.months.result - c.args.month) c.index.result.now c.self.inside.ledgers.seconds.items c.self.invariant.ledgers.second
+    (c.months.result - c.args.month) c.index.result.now c.self.inside.ledgers.seconds.items
+    c.self.invariant.ledgers.second
     (omega (arith, months)) c.index.ensures
     ∙ ap (λ n. second_before_term p (payment_plan p) (2 ^ scale p (payment_plan p)) (n - c.args.month)) months
     ∙ ap (λ q. second_radius q c.args.month) c.self.view_is
@@ -28,7 +29,8 @@ returns-clause-most c =
     let admissible = c.self.invariant.admissible in
     below_same c.index.result.now (second_radius p c.args.month) (2 ^ 41)
     (number_there (second_before_term p (payment_plan p) (2 ^ scale p (payment_plan p))) (suc p.months)
-    (c.months.result - c.args.month) c.index.result.now c.self.inside.ledgers.seconds.items c.self.invariant.ledgers.second
+    (c.months.result - c.args.month) c.index.result.now c.self.inside.ledgers.seconds.items
+    c.self.invariant.ledgers.second
     (omega (arith, months)) c.index.ensures
     ∙ ap (λ n. second_before_term p (payment_plan p) (2 ^ scale p (payment_plan p)) (n - c.args.month)) months)
     ((c.second_stays_small.ensures p admissible.well_formed (c.admissible_products_obey.ensures p admissible)).dates
