@@ -84,8 +84,8 @@ paid states months sums sojourns = record {
 }
 
 allowed : (states months : ℕ) (sums : List (List Step)) (sojourns : List Sojourn) → 1 ≤ states → states ≤ 12
-    → 1 ≤ months
-    → months ≤ 1200 → HasGoodPayments (paid states months sums sojourns) → IsAllowed (paid states months sums sojourns)
+    → 1 ≤ months → months ≤ 1200
+    → HasGoodPayments (paid states months sums sojourns) → IsAllowed (paid states months sums sojourns)
 allowed states months sums sojourns some most some_month most_months payments = record {
   some_state = some;
   most_states = most;
@@ -135,8 +135,8 @@ flat_is_allowed months a some most small =
       distinct = λ i j lower inside. absurd (omega arith);
       sojourns = alone (λ s. IsPayment months s.steps) (steady_in a 0) (steady_is_payment months a some);
       sums = All-nil (λ steps. 1 ≤ length steps → IsPayment months steps);
-      bounded_sojourns = alone (λ s. IsBoundedPayment months s.steps) (steady_in a 0) (steady_is_bounded months
-          a small);
+      bounded_sojourns = alone (λ s. IsBoundedPayment months s.steps) (steady_in a 0)
+          (steady_is_bounded months a small);
       bounded_sums = All-nil (IsBoundedPayment months);
     })
 
@@ -144,8 +144,8 @@ flat_is_allowed months a some most small =
 pub exchange_is_allowed : (months a : ℕ) → 1 ≤ months → months ≤ 1200 → a ≤ 10 ^ 12
     → IsAllowed (paid 2 months (steady a ∷ steady a ∷ []) (steady_in a 0 ∷ steady_in a 1 ∷ []))
 exchange_is_allowed months a some most small =
-    allowed 2 months (steady a ∷ steady a ∷ []) (steady_in a 0 ∷ steady_in a 1 ∷ []) (omega arith) (omega
-    arith) some most
+    allowed 2 months (steady a ∷ steady a ∷ []) (steady_in a 0 ∷ steady_in a 1 ∷ []) (omega arith) (omega arith)
+    some most
     (record {
       states = pair (λ (s : Sojourn). s.state < 2) (steady_in a 0) (steady_in a 1) (omega arith) (omega arith);
       distinct = two_places;
@@ -173,3 +173,17 @@ pub exchange_parts_are_allowed : (months a : ℕ) (sums : List (List Step)) (soj
     })
 exchange_parts_are_allowed months a sums sojourns lumps pattern h k l m some most small =
     rw (h, k, l, m) (exchange_is_allowed months a some most small)
+
+pub flat_parts_are_allowed : (months a : ℕ) (sums : List (List Step)) (sojourns : List Sojourn) (lumps : List Lump)
+    (pattern : PremiumPattern) → sums ≡ [] → sojourns ≡ steady_in a 0 ∷ [] → lumps ≡ [] → pattern ≡ no_pattern
+    → 1 ≤ months → months ≤ 1200 → a ≤ 10 ^ 12
+    → IsAllowed (record {
+      states = 1;
+      months = months;
+      sums = sums;
+      sojourns = sojourns;
+      lumps = lumps;
+      pattern = pattern;
+    })
+flat_parts_are_allowed months a sums sojourns lumps pattern h k l m some most small =
+    rw (h, k, l, m) (flat_is_allowed months a some most small)

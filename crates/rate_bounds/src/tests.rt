@@ -100,6 +100,34 @@ fn steady(alloc: Global, amount: u64) -> Result<Vec<StepAmount>, AllocError>
     [step].to_vec(alloc)
 }
 
+// A rate of 384 in one state over a year.
+fn flat_plan(alloc: Global) -> Result<Plan, AllocError>
+    ensures months { IfOk result (λ plan. plan.months ≡ 12) }
+    ensures states { IfOk result (λ plan. plan.states ≡ 1) }
+    ensures sums { IfOk result (λ plan. length plan.sums ≡ 0) }
+{
+    let steps = steady(alloc, 384)?;
+    let sojourns = vec![in alloc; (0, steps)]?;
+    let sums = Vec::new(alloc);
+    let lumps = Vec::new(alloc);
+    let pattern = no_pattern(alloc);
+    Plan::new(alloc, 1, 12, sums, sojourns, lumps, pattern)
+}
+
+// One state with these payments and without interest.
+fn flat(alloc: Global) -> Result<Product, Fail>
+    ensures { IfOk result (λ p. p.months ≡ 12) }
+{
+    let on = b"on".to_vec(alloc)?;
+    let names = vec![in alloc; on]?;
+    let graph = Graph::new(alloc, names, Vec::new(alloc))?;
+    let interest = Curve::new(alloc, [constant(0)].to_vec(alloc)?, 12)?;
+    let plan = flat_plan(alloc)?;
+    let name = b"flat".to_vec(alloc)?;
+    let rates = Vec::new(alloc);
+    Ok(Product::new(name, graph, 0, 12, 1, interest, rates, plan))
+}
+
 // One amount as the rate in both states and as the sum of both transitions, over a century.
 fn exchange_plan(alloc: Global, amount: u64) -> Result<Plan, AllocError>
     requires { amount ≤ 10 ^ 12 }
@@ -164,6 +192,21 @@ fn a_discounted_lump(rt: HostRuntime) -> Result<(), Fail> {
     assert_eq!(rt; admitted.radius(0), 393_599);
     assert_eq!(rt; admitted.radius_forward(12), 393_599);
     assert_eq!(rt; admitted.radius_second(0), 393_604);
+    Ok(())
+}
+
+#[test]
+fn a_constant_rate(rt: HostRuntime) -> Result<(), Fail> {
+    let alloc = rt.alloc();
+    let admitted = admit(alloc, flat(alloc)?)?;
+    // worked by hand
+    assert_eq!(rt; admitted.bounds(0).kappa40, 0);
+    assert_eq!(rt; admitted.bounds(0).pay1024, 2048);
+    assert_eq!(rt; admitted.bound1024(Which::Benefits), 786_432);
+    assert_eq!(rt; admitted.scale(Which::Benefits), 10);
+    assert_eq!(rt; admitted.radius(0), 393_216);
+    assert_eq!(rt; admitted.radius_second(0), 687_360);
+    assert_eq!(rt; admitted.scale(Which::Pattern), 0);
     Ok(())
 }
 
