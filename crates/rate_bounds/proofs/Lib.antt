@@ -1,5 +1,6 @@
 pub mod BoundSteps
 pub mod CellSteps
+pub mod ConstantPayments
 pub mod DatedRadii
 pub mod FirstBroken
 pub mod FirstMonths

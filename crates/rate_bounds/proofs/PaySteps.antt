@@ -39,7 +39,7 @@ exits_pay-one : (p : Product) (plan : Plan) (m e : ℕ) → exits_pay p plan m (
 unfolding exits_pay
 exits_pay-one p plan m e = omega arith
 
-exit_pay_is : (p : Product) (plan : Plan) (m e rate load : ℕ) → rate ≡ rate_part p m e → load ≡ sum_load plan m e
+pub exit_pay_is : (p : Product) (plan : Plan) (m e rate load : ℕ) → rate ≡ rate_part p m e → load ≡ sum_load plan m e
     → rate * load ≡ exit_pay p plan m e
 unfolding exit_pay
 exit_pay_is p plan m e rate load h k = ap (λ r. r * load) h ∙ ap (λ l. rate_part p m e * l) k
@@ -67,26 +67,36 @@ some_exits_pay p plan m exits i =
     ∙ exits_pay-append p plan m (map (λ x. x.transition) (take i exits)) (map (λ x. x.transition) (drop i exits)) in
     omega (arith, parts)
 
-pub exits_pay_step : (p : Product) (plan : Plan) (m : ℕ) (exits : List Edge) (i : ℕ) (d : Edge) (paid rate load : ℕ)
+pub no_load_no_pay : (p : Product) (plan : Plan) (m e load : ℕ) → load ≡ sum_load plan m e → load ≡ 0
+    → 0 ≡ exit_pay p plan m e
+no_load_no_pay p plan m e load h none =
+    let nothing : 0 ≡ rate_part p m e * load = rw none (omega arith) in
+    nothing ∙ exit_pay_is p plan m e (rate_part p m e) load refl h
+
+pub exits_pay_step : (p : Product) (plan : Plan) (m : ℕ) (exits : List Edge) (i : ℕ) (d : Edge) (paid one : ℕ)
     → i < length exits → paid ≡ exits_pay p plan m (map (λ x. x.transition) (take i exits))
-    → rate ≡ rate_part p m (get_or exits i d).transition → load ≡ sum_load plan m (get_or exits i d).transition
-    → paid + rate * load ≡ exits_pay p plan m (map (λ x. x.transition) (take (i + 1) exits))
-exits_pay_step p plan m exits i d paid rate load inside sofar h k =
-    ap (λ n. n + rate * load) sofar
-    ∙ ap (λ n. exits_pay p plan m (map (λ x. x.transition) (take i exits)) + n)
-    (exit_pay_is p plan m (get_or exits i d).transition rate load h k)
+    → one ≡ exit_pay p plan m (get_or exits i d).transition
+    → paid + one ≡ exits_pay p plan m (map (λ x. x.transition) (take (i + 1) exits))
+exits_pay_step p plan m exits i d paid one inside sofar h =
+    ap (λ n. n + one) sofar ∙ ap (λ n. exits_pay p plan m (map (λ x. x.transition) (take i exits)) + n) h
     ∙ sym (exits_pay_more p plan m exits i d inside)
 
-pub exits_pay_fits : (p : Product) (plan : Plan) (m : ℕ) (exits : List Edge) (i : ℕ) (d : Edge) (paid rate load : ℕ)
+pub exits_pay_fits : (p : Product) (plan : Plan) (m : ℕ) (exits : List Edge) (i : ℕ) (d : Edge) (paid one : ℕ)
     → i < length exits → paid ≡ exits_pay p plan m (map (λ x. x.transition) (take i exits))
-    → rate ≡ rate_part p m (get_or exits i d).transition → load ≡ sum_load plan m (get_or exits i d).transition
-    → exits_pay p plan m (map (λ x. x.transition) exits) < 2 ^ 127 → paid + rate * load < 2 ^ 127
-exits_pay_fits p plan m exits i d paid rate load inside sofar h k fits =
+    → one ≡ exit_pay p plan m (get_or exits i d).transition
+    → exits_pay p plan m (map (λ x. x.transition) exits) < 2 ^ 127 → paid + one < 2 ^ 127
+exits_pay_fits p plan m exits i d paid one inside sofar h fits =
     omega (
       arith,
-      exits_pay_step p plan m exits i d paid rate load inside sofar h k,
+      exits_pay_step p plan m exits i d paid one inside sofar h,
       some_exits_pay p plan m exits (i + 1),
     )
+
+pub one_exit_fits : (p : Product) (plan : Plan) (m : ℕ) (exits : List Edge) (i : ℕ) (d : Edge) → i < length exits
+    → exits_pay p plan m (map (λ x. x.transition) exits) < 2 ^ 127
+    → exit_pay p plan m (get_or exits i d).transition < 2 ^ 127
+one_exit_fits p plan m exits i d inside fits =
+    omega (arith, exits_pay_more p plan m exits i d inside, some_exits_pay p plan m exits (i + 1))
 
 -- what a state pays, by its parts
 pub paid_in_parts : (p : Product) (plan : Plan) (m i sojourn unit exits-paid : ℕ) → sojourn ≡ sojourn_load plan m i

@@ -3,7 +3,7 @@
 ghost use Rattle.std.specs.Prelude.{◌≡◌, ℕ, ◌*◌, ◌^◌, ◌<◌, ◌≤◌, All, length, map};
 ghost use Rattle.model_specs.specs.Growth.{pay};
 ghost use Rattle.ledger_laws.specs.MonthLaws.{ObeysMonthRules};
-ghost use Rattle.rate_bounds.specs.MonthPay.{plan_named, sojourn_load, sum_load, exits_pay};
+ghost use Rattle.rate_bounds.specs.MonthPay.{plan_named, sojourn_load, sum_load, exit_pay, exits_pay};
 ghost use Rattle.rate_bounds.specs.MonthPay.{paid_in_state, greatest_paid};
 
 use crate::exits::exits_of;
@@ -37,7 +37,22 @@ pub(crate) fn sum_load(p: &Product, which: Which, transition: usize, month: u32)
     amount_load(&step, month) as u128
 }
 
-// What some exits pay: the sum of their rates times the loads of their sums.
+// What an exit pays: its rate times the load of its sum. Most transitions have no sum, and then the rate is not formed.
+fn exit_pay(p: &Product, which: Which, transition: usize, month: u32) -> u128
+    requires transition { transition < length p.now.transitions }
+    requires month { month < p.now.months }
+    requires fits { exit_pay p.now (plan_named which p.now) month transition < 2 ^ 127 }
+    ensures { result ≡ exit_pay p.now (plan_named which p.now) month transition }
+{
+    let load = sum_load(p, which, transition, month);
+    if load == 0 {
+        0
+    } else {
+        rate_part(p, transition, month) * load
+    }
+}
+
+// What some exits pay together.
 fn exits_pay(p: &Product, which: Which, exits: &[Edge], month: u32) -> u128
     requires month { month < p.now.months }
     requires within { All (λ exit. exit.transition < length p.now.transitions) exits.now }
@@ -46,9 +61,7 @@ fn exits_pay(p: &Product, which: Which, exits: &[Edge], month: u32) -> u128
 {
     let mut sum = 0;
     for exit in exits {
-        let rate = rate_part(p, exit.transition, month);
-        let load = sum_load(p, which, exit.transition, month);
-        sum += rate * load;
+        sum += exit_pay(p, which, exit.transition, month);
     }
     sum
 }

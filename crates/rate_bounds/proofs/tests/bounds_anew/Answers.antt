@@ -1,5 +1,3 @@
-use Rattle.std.proofs.Common.{◌<◌, ap, subst, sym, arith}
-use Rattle.ledger_laws.specs.MonthLaws.{ObeysAllMonths}
 use Rattle.rate_bounds.proofs.tests.bounds_anew.Goals as goal
 
 pub month_bounds-requires-clause-rules : goal.month_bounds-requires-clause-rules
