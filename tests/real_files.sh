@@ -96,6 +96,12 @@ while read -r name verdict <&3; do
   esac
 done 3<"$top/tests/files/verdicts.txt"
 
+# all lines of `check`, from a computation in exact fractions outside the program
+for wanted in "$top"/tests/files/limits/*.txt; do
+  name=$(basename "$wanted" .txt)
+  try "the limits of $name" 0 "$(cat "$wanted")"$'\n' check "$top/tests/files/$name.toml"
+done
+
 # a full device takes nothing
 "$program" value "$top/examples/flat.toml" >/dev/full 2>"$work/errors"
 status=$?
