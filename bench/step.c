@@ -77,7 +77,31 @@ static i128 dot(const i128 *a, const i128 *v, int count, int div) {
     return q;
 }
 
+static u128 size(i128 x) { return x < 0 ? -(u128)x : (u128)x; }
+
+static int top_power(const System *s) {
+    int top = 0;
+    for (int i = 0; i < s->dim; i++)
+        for (int k = (s->degree + 1) * s->rows[i].width - 1; k >= 0; k--)
+            if (s->rows[i].numbers[k] != 0) {
+                if (k / s->rows[i].width > top) top = k / s->rows[i].width;
+                break;
+            }
+    return top;
+}
+
+/* the coefficients are small for as many powers back as numbers are stored */
+static int may_stop(const u128 *sizes, int k, int top) {
+    if (k < (top < 8 ? 8 : top + 1)) return 0;
+    u128 bound = 64;
+    for (int m = 0; m <= top; m++, bound *= 8)
+        if (sizes[k - m] > bound) return 0;
+    return 1;
+}
+
 static void step(System *s, i128 *mid) {
+    int top = top_power(s);
+    u128 sizes[DEGREE + 1];
     begin(s, mid);
     for (int k = 0; k < DEGREE; k++) {
         for (int i = 0; i < s->dim; i++) {
@@ -85,6 +109,10 @@ static void step(System *s, i128 *mid) {
             s->newest[i] = dot(r->numbers, &r->strip[(24 - k) * r->width], (s->degree + 1) * r->width, k + 1);
         }
         for (int i = 0; i < s->dim; i++) mid[i] += s->newest[i];
+        sizes[k + 1] = 0;
+        for (int i = 0; i < s->dim; i++)
+            if (size(s->newest[i]) > sizes[k + 1]) sizes[k + 1] = size(s->newest[i]);
+        if (may_stop(sizes, k + 1, top)) return;
         write_blocks(s, 23 - k);
     }
 }

@@ -61,11 +61,11 @@ printf 'format = 1\nname = "fl' >"$work/cut.toml"
 { cat "$top/examples/flat.toml"; head -c 1048576 /dev/zero | tr '\0' '#'; } | head -c 1048577 >"$work/long.toml"
 head -c 1048576 "$work/long.toml" >"$work/longest.toml"
 
-flat=$'report value flat\ndegree 24 scale 10\n0 on value 383.999999 384.000001 0.000003\nend 1\n'
+flat=$'report value flat\ndegree 8 scale 10\n0 on value 383.999999 384.000001 0.000003\nend 1\n'
 # by hand: each of 38,400 cells rounds 10^12 * 2^16 / 384 down, and the radius is 38,400 * 1024, in units of 2^-16
-largest=$'report value largest\ndegree 24 scale 48\n0 on value 99999999999399.609375 100000000000599.609375 1200.000002\nend 1\n'
+largest=$'report value largest\ndegree 8 scale 48\n0 on value 99999999999399.609375 100000000000599.609375 1200.000002\nend 1\n'
 # 240000 (1 - exp(-1/20)) = 11704.938119828..: the whole millionths around it
-interest=$'report value interest\ndegree 24 scale 15\n0 on value 11704.938119 11704.938120 0.000003\nend 1\n'
+interest=$'report value interest\ndegree 8 scale 15\n0 on value 11704.938119 11704.938120 0.000003\nend 1\n'
 
 try 'a flat file' 0 "$flat" value "$top/examples/flat.toml"
 try 'the largest rate over the longest term' 0 "$largest" value "$top/examples/largest.toml"
@@ -73,6 +73,9 @@ try 'a file of 1,048,576 bytes' 0 "$flat" value "$work/longest.toml"
 try 'a file of 1,048,577 bytes' 4 $'refused length 1048577\n' value "$work/long.toml"
 try 'a file with a lump' 10 "$unbuilt" value "$work/lump.toml"
 try 'a file with interest' 0 "$interest" value "$top/examples/interest.toml"
+# 40000000 (1 - exp(-3/10)) = 10367271.172731285..: an interval of at most 0.000017 that holds it starts with these digits
+try_start 'an annuity certain' $'report value annuity-certain\ndegree 8 scale 25\n0 paid value 10367271.1727' \
+  value "$top/examples/annuity-certain.toml"
 try 'a file cut inside a string' 5 $'refused toml\n' value "$work/cut.toml"
 try 'an empty file' 6 $'refused rule 1 place 0\n' value /dev/null
 try 'a missing file' 3 '' value "$work/missing.toml"
@@ -100,6 +103,10 @@ done 3<"$top/tests/files/verdicts.txt"
 for wanted in "$top"/tests/files/limits/*.txt; do
   name=$(basename "$wanted" .txt)
   try "the limits of $name" 0 "$(cat "$wanted")"$'\n' check "$top/tests/files/$name.toml"
+done
+for wanted in "$top"/tests/files/examples/*.txt; do
+  name=$(basename "$wanted" .txt)
+  try "the example $name" 0 "$(cat "$wanted")"$'\n' check "$top/examples/$name.toml"
 done
 
 # a full device takes nothing

@@ -9,8 +9,8 @@ use Rattle.frac_laws.specs.Bernstein.{bernstein_coefficient, bernstein_coefficie
 use Rattle.frac_laws.proofs.Quotients.{cross_of_over_equal}
 use Rattle.frac_laws.proofs.WholeProducts.{product_le_cancel}
 use Rattle.model_specs.specs.MonthNumbers.{bernstein_numerator, bernstein_numerators}
-use Rattle.model_specs.specs.NumberLaws.{month_polynomial}
-use Rattle.model_specs.proofs.MonthCoefficients.{curve_numerators_stand}
+use Rattle.model_laws.specs.NumberLaws.{month_polynomial}
+use Rattle.model_laws.proofs.MonthCoefficients.{curve_numerators_stand}
 
 -- equal numbers over one denominator are equal
 whole_antisym : (n m : ℤ) → n ≤ℤ m → m ≤ℤ n → n ≡ m

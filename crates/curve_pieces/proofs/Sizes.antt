@@ -76,7 +76,7 @@ cell_sizes p k x six bounded within =
 
 -- in months
 pub month_sizes : (p : List ℤ) (k x : ℕ) → length p ≡ 6 → IsBounded p (k + 1) → x ≤ 1 * (k + 1)
-    → 320 * value_of_sizes (in_units_of 12 p) x < 2 ^ 126
+    → 320 * value_of_sizes (in_units_of 12 p) x < 2 ^ 100
 month_sizes p k x six bounded within =
     omega (
       arith,
@@ -115,5 +115,5 @@ cell_fits c q r k origin f =
     )
 
 pub month_fits : (c : List ℤ) (k : ℕ) → length c ≡ 6 → IsBounded c (k + 1)
-    → 320 * value_of_sizes (in_units_of 12 c) (max k 1) < 2 ^ 126
+    → 320 * value_of_sizes (in_units_of 12 c) (max k 1) < 2 ^ 100
 month_fits c k six bounded = month_sizes c k (max k 1) six bounded (omega arith)

@@ -99,7 +99,7 @@ impl Curve {
     pub fn month_bernstein(&self, month: u32) -> [i128; 6]
         requires { month < self.now.months }
         ensures numerators { result ≡ curve_numerators self.now.pieces month }
-        ensures size { (j : ℕ) → unsigned_abs (slice_index_or result j (pos 0)) < 2 ^ 126 }
+        ensures size { (j : ℕ) → unsigned_abs (slice_index_or result j (pos 0)) < 2 ^ 100 }
     {
         let piece = self.at(month);
         piece.in_years().month_bernstein(month - piece.from)

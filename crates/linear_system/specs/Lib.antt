@@ -1,6 +1,6 @@
 pub mod Changes
+pub mod DegreeLimit
 pub mod Layout
-pub mod Norms
 pub mod Setting
 pub mod StandsFor
 pub mod StoredSystem

@@ -1,7 +1,7 @@
-// One row of a stored system.
+//! One row of a stored system.
 
-ghost use Rattle.std.specs.Prelude.{◌≡◌, ℕ, ◌^◌, ◌+◌, ◌*◌, ◌<◌, ◌≤◌, ◌&&◌, ◌||◌, pos, length, nat_eq, replicate};
-ghost use Rattle.std.specs.Prelude.{IfOk, IfErr, IsTrue, ◌↔◌, slice_set, List};
+ghost use Rattle.std.specs.Prelude.{◌≡◌, ◌↔◌, ℕ, ◌+◌, ◌*◌, ◌<◌, ◌≤◌, pos, length, replicate, slice_set};
+ghost use Rattle.std.specs.Prelude.{IfOk, IsTrue};
 ghost use Rattle.linear_system.specs.StoredSystem.{place_of, AreColumns};
 ghost use Rattle.linear_system.specs.Setting.{is_link, may_hold};
 
@@ -49,7 +49,8 @@ fn columns_of(
     requires dim { dim ≤ 24 }
     requires row { row < dim }
     ensures columns { IfOk result (λ v. AreColumns dim v.items) }
-    ensures places { IfOk result (λ v. (col : ℕ) → col < dim → (place_of v.items col < length v.items) ↔ IsTrue (may_hold links.now row col)) }
+    ensures places { IfOk result (λ v. (col : ℕ) → col < dim
+        → (place_of v.items col < length v.items) ↔ IsTrue (may_hold links.now row col)) }
 {
     let mut columns = Vec::new(alloc);
     for col in 0..dim {
@@ -81,8 +82,10 @@ impl Row {
         requires degree { degree ≤ 11 }
         requires row { row < dim }
         ensures columns { IfOk result (λ r. AreColumns dim r.columns.items) }
-        ensures places { IfOk result (λ r. (col : ℕ) → col < dim → (place_of r.columns.items col < length r.columns.items) ↔ IsTrue (may_hold links.now row col)) }
-        ensures numbers { IfOk result (λ r. r.numbers.items ≡ replicate (length r.columns.items * (degree + 1)) (pos 0)) }
+        ensures places { IfOk result (λ r. (col : ℕ) → col < dim
+            → (place_of r.columns.items col < length r.columns.items) ↔ IsTrue (may_hold links.now row col)) }
+        ensures numbers { IfOk result (λ r. r.numbers.items
+            ≡ replicate (length r.columns.items * (degree + 1)) (pos 0)) }
     {
         let columns = columns_of(alloc, dim, row, links)?;
         let numbers = zeros(alloc, columns.len() * (degree + 1))?;
@@ -95,7 +98,8 @@ impl Row {
         requires width { length self.old.columns.items ≤ 25 }
         requires top { m ≤ 11 }
         ensures columns { self.new.columns.items ≡ self.old.columns.items }
-        ensures numbers { self.new.numbers.items ≡ slice_set self.old.numbers.items (m * length self.old.columns.items + place) v }
+        ensures numbers { self.new.numbers.items
+            ≡ slice_set self.old.numbers.items (m * length self.old.columns.items + place) v }
     {
         self.numbers[m * self.columns.len() + place] = v;
     }

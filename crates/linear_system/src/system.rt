@@ -1,7 +1,7 @@
-// Stored systems: how one is made, cleared, written and read.
+//! Stored systems: how one is made, cleared, written and read.
 
-ghost use Rattle.std.specs.Prelude.{◌≡◌, ℕ, ◌^◌, ◌+◌, ◌<◌, ◌≤◌, unsigned_abs, IfOk, map, pos};
-ghost use Rattle.linear_system.specs.StoredSystem.{IsSystem, dim_of, row_of, place_of};
+ghost use Rattle.std.specs.Prelude.{◌≡◌, ℕ, ◌^◌, ◌<◌, ◌≤◌, unsigned_abs, IfOk};
+ghost use Rattle.linear_system.specs.StoredSystem.{IsSystem, dim_of, row_of};
 ghost use Rattle.linear_system.specs.Setting.{HasPlace, IsMadeFor, HaveSamePlaces, HasNoNumbers, SetsOnly};
 ghost use Rattle.linear_system.specs.Layout.{row_at};
 ghost use Rattle.linear_system.specs.Changes.{cleared_row, with_number, HasColumn};

@@ -5,6 +5,7 @@ use Rattle.std.specs.Prelude.{Option, find, option_map, unwrap_or}
 use Rattle.frac_laws.specs.Fraction.{Fraction, over}
 use Rattle.frac_laws.specs.Lists.{scale_list}
 use Rattle.frac_laws.specs.Polynomials.{shifted, stretched, all_over}
+use Rattle.named_numbers.specs.Numbers.{months_of_year, cells_of_month}
 use Rattle.model_specs.specs.Whole.{places}
 use Rattle.model_specs.specs.Curve.{Piece, piece_at}
 use Rattle.model_specs.specs.Product.{Product, Step, transition_at}
@@ -32,7 +33,7 @@ pub record Grid : Type 0 where
 
 -- the grid of the runs: 32 cells in a month; and that of whole months
 abbrev pub cells_of_32 : Direction → Grid
-cells_of_32 direction = record { cells = 32; direction = direction }
+cells_of_32 direction = record { cells = cells_of_month; direction = direction }
 
 abbrev pub whole_months : Direction → Grid
 whole_months direction = record { cells = 1; direction = direction }
@@ -41,12 +42,12 @@ whole_months direction = record { cells = 1; direction = direction }
 -- over one cell of the month; h is the cell's length in years, and b is where x is 0
 abbrev pub cell_polynomial : Grid → List Fraction → ℕ → ℕ → List Fraction
 cell_polynomial grid f months cell =
-    stretched (over (sign_of grid.direction) (12 * grid.cells))
-    (shifted (over (pos (origin_of grid.direction (months * grid.cells + cell))) (12 * grid.cells)) f)
+    stretched (over (sign_of grid.direction) (months_of_year * grid.cells))
+    (shifted (over (pos (origin_of grid.direction (months * grid.cells + cell))) (months_of_year * grid.cells)) f)
 
 -- what a year's rate is for a cell: times the cell's length in years
 abbrev pub per_cell : Grid → List Fraction → List Fraction
-per_cell grid rate = scale_list (over (pos 1) (12 * grid.cells)) rate
+per_cell grid rate = scale_list (over (pos 1) (months_of_year * grid.cells)) rate
 
 -- a curve in a cell of a month
 abbrev pub curve_cell : Grid → ℕ → List Piece → ℕ → ℕ → List Fraction

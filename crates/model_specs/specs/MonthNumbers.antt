@@ -3,6 +3,7 @@
 use Rattle.std.specs.Prelude.{ℕ, suc, ◌+◌, ◌-◌, ◌*◌, ◌/◌, ◌^◌, ℤ, pos, neg_ℤ, ◌*ℤ◌, unsigned_abs, ◌==◌}
 use Rattle.std.specs.Prelude.{filter, map, length, List, slice_index_or}
 use Rattle.frac_laws.specs.Bernstein.{binomial}
+use Rattle.named_numbers.specs.Numbers.{months_of_year, bernstein_unit}
 use Rattle.model_specs.specs.Whole.{list_of, places, whole_sum, greatest_whole, least_whole}
 use Rattle.model_specs.specs.Whole.{greatest_natural, natural_part}
 use Rattle.model_specs.specs.Curve.{Piece, piece_at}
@@ -15,7 +16,7 @@ coefficient_at c i = slice_index_or c i (pos 0)
 -- 12^5 times the coefficient of u^i in c((k + u) / 12): month k since the start of c, with u from 0 to 1
 abbrev pub month_coefficient : List ℤ → ℕ → ℕ → ℤ
 month_coefficient c k i = whole_sum (list_of (6 - i)
-    (λ d. pos (binomial (i + d) i * k ^ d * 12 ^ (5 - (i + d))) *ℤ coefficient_at c (i + d)))
+    (λ d. pos (binomial (i + d) i * k ^ d * months_of_year ^ (5 - (i + d))) *ℤ coefficient_at c (i + d)))
 
 -- the Bernstein coefficient at j over that month, as a numerator over 2488320 = 10 * 12^5
 abbrev pub bernstein_numerator : List ℤ → ℕ → ℕ → ℤ
@@ -33,7 +34,7 @@ curve_numerators pieces month =
 
 -- the common denominator of the numbers of a month
 abbrev pub month_unit : Product → ℕ
-month_unit product = 2488320 * product.den
+month_unit product = bernstein_unit * product.den
 
 -- M_e: the greatest Bernstein coefficient of the intensity of transition e over a month
 abbrev pub greatest_rate : Product → ℕ → ℕ → ℤ

@@ -1,6 +1,9 @@
 -- Rules 3 to 14 of a product file, as far as the record of a product can break them. This product's own.
 use Rattle.std.specs.Prelude.{◌≡◌, ◌≢◌, ℕ, suc, ◌-◌, ◌*◌, ◌^◌, ◌<◌, ◌≤◌, ℤ, pos, unsigned_abs, All, map}
 use Rattle.std.specs.Prelude.{List, [], length, slice_index, slice_index_or}
+use Rattle.named_numbers.specs.Numbers.{most_months, most_states, most_denominator, most_every}
+use Rattle.named_numbers.specs.Numbers.{longest_product_name, longest_state_name}
+use Rattle.named_numbers.specs.Numbers.{most_coefficient, most_amount, most_lump, bernstein_unit}
 use Rattle.model_specs.specs.Curve.{Piece, zero_piece}
 use Rattle.model_specs.specs.Product.{Product, Step}
 use Rattle.model_specs.specs.Payments.{constant_step}
@@ -13,18 +16,18 @@ AreDistinct none xs = (i j : ℕ) → i < j → j < length xs → slice_index_or
 
 -- rule 3: the product and its 1 to 12 states have good names, and no two states have the same
 pub record HasGoodNames (product : Product) : Type 0 where
-  pub name : IsGoodName 40 product.name
+  pub name : IsGoodName longest_product_name product.name
   pub some_state : 1 ≤ length product.states
-  pub at_most_twelve : length product.states ≤ 12
-  pub states : All (IsGoodName 24) product.states
+  pub at_most_twelve : length product.states ≤ most_states
+  pub states : All (IsGoodName longest_state_name) product.states
   pub distinct : AreDistinct [] product.states
 
 -- rules 4 to 6: a term of 1 to 1200 months, a denominator from 1 to 10^12, a start that is a state
 pub record HasGoodHead (product : Product) : Type 0 where
   pub some_month : 1 ≤ product.months
-  pub at_most_a_century : product.months ≤ 1200
+  pub at_most_a_century : product.months ≤ most_months
   pub some_denominator : 1 ≤ product.den
-  pub largest_denominator : product.den ≤ 10 ^ 12
+  pub largest_denominator : product.den ≤ most_denominator
   pub start : product.start < length product.states
 
 -- rule 7: each transition leads from a state to another one, and no two have the same pair of states
@@ -47,7 +50,7 @@ months_of months starts k = slice_index_or starts (suc k) months - slice_index s
 
 -- |c_i| s^i is at most 10^22 for each coefficient of a part that holds for s months
 abbrev pub IsBounded : List ℤ → ℕ → Type 0
-IsBounded c s = (i : ℕ) → i < length c → unsigned_abs (coefficient_at c i) * s ^ i ≤ 10 ^ 22
+IsBounded c s = (i : ℕ) → i < length c → unsigned_abs (coefficient_at c i) * s ^ i ≤ most_coefficient
 
 -- the starts of the pieces of a curve
 abbrev pub piece_starts : List Piece → List ℕ
@@ -77,7 +80,7 @@ pub record IsPayment (months : ℕ) (steps : List Step) : Type 0 where
 pub record IsBoundedStep (c : List ℤ) (s : ℕ) : Type 0 where
   pub coefficients : IsBounded c s
   pub amounts : (k : ℕ) → k < s →
-      All (λ b. unsigned_abs b ≤ 10 ^ 12 * 2488320) (bernstein_numerators c k)
+      All (λ b. unsigned_abs b ≤ most_amount * bernstein_unit) (bernstein_numerators c k)
 
 -- rule 11 of a list of steps
 abbrev pub IsBoundedPayment : ℕ → List Step → Type 0
@@ -106,7 +109,7 @@ pub record HasGoodPayments (product : Product) : Type 0 where
 pub record HasGoodLumps (product : Product) : Type 0 where
   pub dates : All (λ l. l.month ≤ product.months) product.lumps
   pub states : All (λ l. l.state < length product.states) product.lumps
-  pub amounts : All (λ l. unsigned_abs l.amount ≤ 10 ^ 12) product.lumps
+  pub amounts : All (λ l. unsigned_abs l.amount ≤ most_lump) product.lumps
   pub distinct : AreDistinct {A = ℕ × ℕ} (0, 0) (map (λ l. (l.month, l.state)) product.lumps)
 
 -- rules 13 and 14: the payers are states and differ; a pattern that pays ends within the term, at a date
@@ -116,7 +119,7 @@ pub record HasGoodPattern (product : Product) : Type 0 where
   pub distinct : AreDistinct 0 product.pattern.payers
   pub until_above_0 : 1 ≤ length product.pattern.payers → 1 ≤ product.pattern.until
   pub until_within : product.pattern.until ≤ product.months
-  pub every : product.pattern.every ≤ 1200
+  pub every : product.pattern.every ≤ most_every
   pub never_until : product.pattern.payers ≡ [] → product.pattern.until ≡ 0
   pub never_every : product.pattern.payers ≡ [] → product.pattern.every ≡ 0
 

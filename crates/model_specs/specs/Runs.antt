@@ -5,6 +5,7 @@ use Rattle.frac_laws.specs.Fraction.{Fraction, whole, ◌+ℚ◌, ◌*ℚ◌}
 use Rattle.frac_laws.specs.Lists.{Vector, number_at, add_lists}
 use Rattle.cell_laws.specs.Systems.{System, taylor_value}
 use Rattle.cell_laws.specs.Pairs.{CoupledPair, second_taylor_value}
+use Rattle.named_numbers.specs.Numbers.{cells_of_month}
 use Rattle.model_specs.specs.Product.{Product}
 use Rattle.model_specs.specs.Payments.{Plan, lump_at, payment_plan, pattern_plan}
 use Rattle.model_specs.specs.Cells.{Grid, Forward, Backward, cells_of_32, whole_months, cell_curves}
@@ -89,7 +90,7 @@ moments_before_term product plan n zero =
 moments_before_term product plan n (suc months) =
     let month = product.months - suc months in
     moments_month_back
-    (λ cell. norberg_pair (cell_curves (cells_of_32 Backward) product plan month cell)) n 32
+    (λ cell. norberg_pair (cell_curves (cells_of_32 Backward) product plan month cell)) n cells_of_month
     (before_lumps product plan (suc month) (moments_before_term product plan n months))
 
 -- V2_n(date, state): the second moment of the payment plan (Norberg 1995), in squared minor units
@@ -104,7 +105,7 @@ probabilities product n zero = vector_of (length product.states)
 probabilities product n (suc month) =
     let system : ℕ → System = λ cell. kolmogorov_system
     (cell_curves (cells_of_32 Forward) product (payment_plan product) month cell) in
-    month_forward system n 32 (probabilities product n month)
+    month_forward system n cells_of_month (probabilities product n month)
 
 -- p_n(date, state): the Kolmogorov run (Hoem 1969)
 abbrev pub probability : Product → ℕ → ℕ → ℕ → Fraction

@@ -2,6 +2,7 @@
 use Rattle.std.specs.Prelude.{ℕ, zero, suc, ◌+◌, ℤ, ◌-ℤ◌, unsigned_abs, Bool, false, ◌&&◌, ◌==◌}
 use Rattle.std.specs.Prelude.{if◌then◌else◌, List, ◌∷◌, ◌++◌, map, drop, zip, sum, length}
 use Rattle.std.specs.List.{list_all}
+use Rattle.named_numbers.specs.Numbers.{cells_of_month}
 use Rattle.model_specs.specs.Whole.{list_of}
 use Rattle.model_specs.specs.Curve.{piece_at}
 use Rattle.model_specs.specs.Product.{Product}
@@ -41,7 +42,7 @@ abbrev pub month_cost : Product → Plan → ℕ → ℕ
 month_cost product plan month =
     if is_constant_month product plan month
     then (if continues_stretch product plan month then 0 else length product.states + 1)
-    else 32
+    else cells_of_month
 
 -- cost: the steps of a backward valuation of a plan
 abbrev pub cost : Product → Plan → ℕ

@@ -3,6 +3,7 @@ use Rattle.std.specs.Prelude.{◌≡◌, ℕ, ◌*◌, ◌^◌, nat_le, ℤ, pos
 use Rattle.std.specs.Prelude.{Bool, not, ◌&&◌, if◌then◌else◌, Option, Some, None, option_map, find}
 use Rattle.std.specs.Prelude.{List, [], ◌∷◌, length}
 use Rattle.std.specs.List.{list_all}
+use Rattle.named_numbers.specs.Numbers.{most_bound}
 use Rattle.model_specs.specs.Whole.{places}
 use Rattle.model_specs.specs.Curve.{piece_at}
 use Rattle.model_specs.specs.Product.{Product}
@@ -29,7 +30,7 @@ obeys_rule_17 product month = int_le (rho product month) (pos (2 * month_unit pr
 
 -- rule 18: the bound of the payment plan is at most 2^66 / 1024 minor units
 abbrev pub obeys_rule_18 : Product → Bool
-obeys_rule_18 product = nat_le (bound1024 product (payment_plan product)) (2 ^ 66)
+obeys_rule_18 product = nat_le (bound1024 product (payment_plan product)) most_bound
 
 -- a rule that is broken, and the least place at which it is
 pub record RuleBreak : Type 0 where

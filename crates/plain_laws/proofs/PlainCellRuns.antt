@@ -15,9 +15,9 @@ use Rattle.cell_laws.proofs.Recurrences.{taylor_value_sums}
 use Rattle.model_specs.specs.Cells.{CellCurves}
 use Rattle.model_specs.specs.Systems.{interest_at, intensity_at, sojourn_rate_at, leaving_at}
 use Rattle.model_specs.specs.Systems.{first_payment_at, sum_paid_at, thiele_system}
-use Rattle.model_specs.specs.Equations.{IsQuintic}
+use Rattle.model_laws.specs.Equations.{IsQuintic}
 use Rattle.model_specs.specs.Runs.{month_back}
-use Rattle.model_specs.proofs.CellEquations.{thiele_system_solves}
+use Rattle.model_laws.proofs.CellEquations.{thiele_system_solves}
 use Rattle.plain_laws.specs.PlainProduct.{PlainProduct}
 use Rattle.plain_laws.specs.PlainRun.{cell_interest, payment_at, value_before_term}
 use Rattle.plain_laws.specs.PlainRun as run

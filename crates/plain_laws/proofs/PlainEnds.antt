@@ -80,7 +80,7 @@ upper_end_above hi mid w g m v h is_ceiling near inverse =
     (le_of_equal (ap whole (sym is_ceiling))))
     (above_value (v *ℚ h) mid w near) (products_natural g m) inverse
 
--- the ends enclose the value from degree 24 on
+-- the ends enclose the value from degree 8 on
 pub ends_enclose : EndsEnclose
 ends_enclose p g w mid lo hi held ends = record {
   low = λ n from. lower_end_below lo mid w (2 ^ g) (10 ^ 6) (value_at_issue p n) (scaling g) ends.low
@@ -89,7 +89,7 @@ ends_enclose p g w mid lo hi held ends = record {
       (near n from) (scaling-inverse g);
 }
   where
-    near : (n : ℕ) → 24 ≤ n → size (value_at_issue p n *ℚ scaling g -ℚ over mid (2 ^ 64)) ≤ℚ over (pos w)
+    near : (n : ℕ) → 8 ≤ n → size (value_at_issue p n *ℚ scaling g -ℚ over mid (2 ^ 64)) ≤ℚ over (pos w)
         (2 ^ 64)
     near n from = le_trans (le_of_equal (sym (distance-single (value_at_issue p n *ℚ scaling g)
         (over mid (2 ^ 64))))) (held n from)

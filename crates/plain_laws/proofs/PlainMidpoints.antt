@@ -36,11 +36,11 @@ units_within_two mid high low =
 -- the midpoint is at most 2^65 in size
 pub midpoint_most : MidpointsAreSmall
 midpoint_most p cells radius mid ranges few small held =
-    let value = scaled_value p (scale p) 24 cells in
-    let within = values_within_scale p 24 cells ranges (omega arith) few in
+    let value = scaled_value p (scale p) 8 cells in
+    let within = values_within_scale p 8 cells ranges (omega arith) few in
     let far : size (value -ℚ over mid (2 ^ 64)) ≤ℚ whole (pos 1) =
     le_trans (le_of_equal (sym (distance-single value (over mid (2 ^ 64)))))
-    (le_trans (held 24 (omega arith)) (over_le_of_cross (pos radius) (pos 1) (2 ^ 64) 1 (omega arith)
+    (le_trans (held 8 (omega arith)) (over_le_of_cross (pos radius) (pos 1) (2 ^ 64) 1 (omega arith)
     (omega arith) (omega (arith, ints, small)))) in
     units_within_two mid
     (linear (value ∷ over mid (2 ^ 64) ∷ []) (opposite_le_of_size_le far ⊞ le_of_size_le within)

@@ -20,7 +20,7 @@ use Rattle.model_specs.specs.Systems.{thiele_system, interest_at, intensity_at, 
 use Rattle.model_specs.specs.Runs.{first_before_term, lump_vector, reserve, value_before_issue}
 use Rattle.model_specs.specs.Rows.{Row, Value, Holds, HoldsAtDegree, IsBetween}
 use Rattle.model_specs.specs.ValuationRules.{IsPlain}
-use Rattle.model_specs.proofs.CellShapes.{cells_are_quintic}
+use Rattle.model_laws.proofs.CellShapes.{cells_are_quintic}
 use Rattle.plain_laws.specs.PlainProduct.{PlainProduct, plain_of}
 use Rattle.plain_laws.specs.PlainRun.{payment_at, value_before_term, value_at_issue, Encloses}
 use Rattle.plain_laws.specs.ModelLaws.{HasPlainValues, PlainValues, PlainRowsHold}

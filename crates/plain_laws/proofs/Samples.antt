@@ -8,10 +8,10 @@ use Rattle.frac_laws.proofs.FractionTerms.{ring, terms}
 use Rattle.model_specs.specs.MonthNumbers.{bernstein_numerators}
 use Rattle.model_specs.specs.Payments.{constant_step}
 use Rattle.model_specs.specs.RecordRules.{IsWellFormed, AreDistinct, IsBounded, IsPayment, IsBoundedPayment}
-use Rattle.model_specs.specs.Examples.{discounted_lump}
-use Rattle.model_specs.proofs.RuleInstances.{lump_is_admissible}
-use Rattle.model_specs.proofs.FlatRuns.{piece-constant, step-constant}
-use Rattle.model_specs.proofs.Scales.{scale_between}
+use Rattle.model_laws.specs.Examples.{discounted_lump}
+use Rattle.model_laws.proofs.RuleInstances.{lump_is_admissible}
+use Rattle.model_laws.proofs.FlatRuns.{piece-constant, step-constant}
+use Rattle.model_laws.proofs.Scales.{scale_between}
 use Rattle.plain_laws.specs.PlainLedger.{bound1024, scale, radius, tolerance}
 use Rattle.plain_laws.specs.Samples.{yearly_annuity, plain_annuity, AnnuityIsWellFormed, AnnuityIsPlain}
 use Rattle.plain_laws.specs.Samples.{HasSampleLedgers, LastCellPays}

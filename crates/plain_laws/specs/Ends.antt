@@ -13,10 +13,10 @@ pub record AreEnds (mid : ℤ) (radius g : ℕ) (lo hi : ℤ) : Type 0 where
   pub low : lo ≡ floor_of ((mid -ℤ pos radius) *ℤ pos (2 ^ g * 10 ^ 6)) (pos (2 ^ 64))
   pub high : hi ≡ ceiling_of ((mid +ℤ pos radius) *ℤ pos (2 ^ g * 10 ^ 6)) (pos (2 ^ 64))
 
--- the ends of a midpoint at issue enclose the value from degree 24 on
+-- the ends of a midpoint at issue enclose the value from degree 8 on
 abbrev pub EndsEnclose : Type 0
 EndsEnclose = (p : PlainProduct) (g radius : ℕ) (mid lo hi : ℤ) → IsMidpoint p g (cells_of p) mid radius
-    → AreEnds mid radius g lo hi → Encloses p 24 lo hi
+    → AreEnds mid radius g lo hi → Encloses p 8 lo hi
 
 -- and are no further apart than the tolerance of the radius
 abbrev pub EndsAreNarrow : Type 0

@@ -31,9 +31,9 @@ abbrev pub RunsAreTaylorValues : Type 0
 RunsAreTaylorValues = (p : PlainProduct) (g n cells : ℕ)
     → scaled_run p g n (suc cells) ≡ taylor_value (plain_system p g) (scaled_run p g n cells) n
 
--- for every degree n from 24 on the scaled run is within the radius of the number, both in units of 2^-64
+-- for every degree n from 8 on, the degree of the steps, the scaled run is within the radius of the number, both in units of 2^-64
 abbrev pub IsMidpoint : PlainProduct → (g cells : ℕ) → ℤ → ℕ → Type 0
-IsMidpoint p g cells mid radius = (n : ℕ) → 24 ≤ n
+IsMidpoint p g cells mid radius = (n : ℕ) → 8 ≤ n
     → distance Sup (scaled_run p g n cells) (over mid (2 ^ 64) ∷ []) ≤ℚ over (pos radius) (2 ^ 64)
 
 -- the system at the product's scale is tame with the growth that the ledgers count

@@ -9,7 +9,7 @@ use Rattle.model_specs.specs.ValuationRules.{IsPlain}
 use Rattle.model_specs.specs.Ledgers as model
 use Rattle.model_specs.specs.Rows.{Row, Value}
 use Rattle.model_specs.specs.Rows as rows
-use Rattle.model_specs.specs.Examples.{one_state, steady}
+use Rattle.model_laws.specs.Examples.{one_state, steady}
 use Rattle.plain_laws.specs.PlainProduct.{PlainProduct, plain_of}
 use Rattle.plain_laws.specs.PlainLedger.{kappa40, pay1024}
 use Rattle.plain_laws.specs.PlainRun.{value_before_term}

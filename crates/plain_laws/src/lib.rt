@@ -1,11 +1,11 @@
 //! The model's definitions at a plain product, and the theory of its one-state run.
 #![tactic(auto)]
 
-mod model_laws;
+mod plain_products;
 mod run_laws;
 mod sample_checks;
 
-pub use model_laws::{
+pub use plain_products::{
     plain_ledgers, plain_months, plain_numbers_are_in_range, plain_products_break_no_rule,
     plain_rows_hold, plain_values,
 };

@@ -32,7 +32,7 @@ pub fn midpoints_are_small()
     ensures before { MidpointsAreSmall }
 {}
 
-/// The ends of a midpoint at issue enclose the value from degree 24 on, and are no further apart than the
+/// The ends of a midpoint at issue enclose the value from degree 8 on, and are no further apart than the
 /// tolerance of the radius.
 pub fn ends_enclose()
     ensures enclose { EndsEnclose }

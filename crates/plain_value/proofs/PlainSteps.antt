@@ -28,7 +28,7 @@ use Rattle.plain_laws.proofs.PlainTaylor.{runs_are_taylor_values}
 -- a step keeps the midpoint within its radius
 midpoint_before_cell : (p : PlainProduct) (cells : ℕ) (old new : ℤ) → HasRanges p → cells < cells_of p
     → IsMidpoint p (scale p) cells old (ledger_after (kappa40 p) 1024 cells)
-    → Encloses Sup (plain_system p (scale p)) (kappa40 p) (old ∷ []) (new ∷ []) 24
+    → Encloses Sup (plain_system p (scale p)) (kappa40 p) (old ∷ []) (new ∷ []) 8
     → IsMidpoint p (scale p) (suc cells) new (ledger_after (kappa40 p) 1024 (suc cells))
 midpoint_before_cell p cells old new ranges few before step n from =
     let g = scale p in
@@ -65,37 +65,42 @@ swept_most p g cells mid ranges is_scale few held =
     midpoint_most p cells (ledger_after (kappa40 p) 1024 cells) mid ranges few
     (omega (arith, radius_most p cells ranges few)) (rw is_scale at held)
 
--- a step may be taken
-pub can_step : (p : PlainProduct) (g cells : ℕ) (s : StoredSystem) (mid : List ℤ) → HasRanges p → g ≡ scale p
-    → cells ≤ cells_of p
-    → StandsFor s (plain_system p g) → length mid ≡ 1
+-- and so are the numbers of the list that it stands in
+pub swept_at_most : (p : PlainProduct) (g cells : ℕ) (mid : List ℤ) → HasRanges p → g ≡ scale p
+    → cells ≤ cells_of p → length mid ≡ 1
     → IsMidpoint p g cells (slice_index_or mid 0 (pos 0)) (ledger_after (kappa40 p) 1024 cells)
-    → CanStep s mid
-can_step p g cells s [] ranges is_scale few stands one held = cc
-can_step p g cells s (x ∷ []) ranges is_scale few stands one held =
-    in_sup (plain_system p g) (kappa40 p) stands (plain_system_tame p g (kappa40 p) ranges
-    (rw is_scale (rate_within_scale p ranges))) at_most
+    → AreAtMost (2 ^ 65) mid
+swept_at_most p g cells [] ranges is_scale few one held = cc
+swept_at_most p g cells (x ∷ []) ranges is_scale few one held = at_most
   where
     at_most : AreAtMost (2 ^ 65) (x ∷ [])
     at_most zero = swept_most p g cells x ranges is_scale few held
     at_most (suc i) = omega arith
-can_step p g cells s (x ∷ y ∷ mid) ranges is_scale few stands one held = cc
+swept_at_most p g cells (x ∷ y ∷ mid) ranges is_scale few one held = cc
+
+-- a step may be taken
+pub can_step : (p : PlainProduct) (g cells : ℕ) (s : StoredSystem) (mid : List ℤ) → HasRanges p → g ≡ scale p
+    → cells ≤ cells_of p → StandsFor s (plain_system p g) → length mid ≡ 1
+    → IsMidpoint p g cells (slice_index_or mid 0 (pos 0)) (ledger_after (kappa40 p) 1024 cells)
+    → CanStep s mid
+can_step p g cells s mid ranges is_scale few stands one held =
+    in_sup (plain_system p g) (kappa40 p) stands (plain_system_tame p g (kappa40 p) ranges
+    (rw is_scale (rate_within_scale p ranges))) (swept_at_most p g cells mid ranges is_scale few one held)
 
 -- and keeps the midpoint at the next cell
 pub stepped : (p : PlainProduct) (g cells next degree : ℕ) (old new : List ℤ) → HasRanges p → g ≡ scale p
-    → cells < cells_of p
-    → next ≡ suc cells → degree ≡ 24 → length old ≡ 1 → length new ≡ 1
+    → cells < cells_of p → next ≡ suc cells → degree ≡ 8 → length old ≡ 1 → length new ≡ 1
     → Encloses Sup (plain_system p g) (kappa40 p) old new degree
     → IsMidpoint p g cells (slice_index_or old 0 (pos 0)) (ledger_after (kappa40 p) 1024 cells)
     → IsMidpoint p g next (slice_index_or new 0 (pos 0)) (ledger_after (kappa40 p) 1024 next)
-stepped p g cells next degree [] new ranges is_scale few is_next is_degree one one_new encloses held = cc
-stepped p g cells next degree (x ∷ y ∷ old) new ranges is_scale few is_next is_degree one one_new encloses
+stepped p g cells next degree [] new ranges is_scale few is_next is_least one one_new encloses held = cc
+stepped p g cells next degree (x ∷ y ∷ old) new ranges is_scale few is_next is_least one one_new encloses
     held = cc
-stepped p g cells next degree (x ∷ []) [] ranges is_scale few is_next is_degree one one_new encloses held = cc
-stepped p g cells next degree (x ∷ []) (z ∷ y ∷ new) ranges is_scale few is_next is_degree one one_new
+stepped p g cells next degree (x ∷ []) [] ranges is_scale few is_next is_least one one_new encloses held = cc
+stepped p g cells next degree (x ∷ []) (z ∷ y ∷ new) ranges is_scale few is_next is_least one one_new
     encloses held = cc
-stepped p g cells next degree (x ∷ []) (z ∷ []) ranges is_scale few is_next is_degree one one_new encloses
+stepped p g cells next degree (x ∷ []) (z ∷ []) ranges is_scale few is_next is_least one one_new encloses
     held =
-    let promise : Encloses Sup (plain_system p (scale p)) (kappa40 p) (x ∷ []) (z ∷ []) 24 =
-    rw (is_degree, is_scale) at encloses in
+    let promise : Encloses Sup (plain_system p (scale p)) (kappa40 p) (x ∷ []) (z ∷ []) 8 =
+    rw (is_scale, is_least) at encloses in
     rw (is_next, is_scale) (midpoint_before_cell p cells x z ranges few (rw is_scale at held) promise)

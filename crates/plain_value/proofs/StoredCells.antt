@@ -13,7 +13,8 @@ use Rattle.frac_laws.proofs.Order.{le_trans, le_of_equal}
 use Rattle.frac_laws.proofs.Norms.{size_zero}
 use Rattle.frac_laws.proofs.Quotients.{over_is, over_le_of_cross}
 use Rattle.linear_system.specs.StoredSystem.{StoredSystem, dim_of, stored_number, stored_free}
-use Rattle.linear_system.specs.Setting.{IsMadeFor, HasNoNumbers, SetsOnly}
+use Rattle.linear_system.specs.DegreeLimit.{IsConstant}
+use Rattle.linear_system.specs.Setting.{IsMadeFor, HasNoNumbers, HaveSamePlaces, SetsOnly}
 use Rattle.linear_system.specs.StandsFor.{units, MatricesStandNear, VectorsStandNear, StandsFor}
 use Rattle.plain_laws.specs.PlainProduct.{PlainProduct}
 use Rattle.plain_laws.specs.PlainRun.{cell_interest, cell_payment}
@@ -110,6 +111,11 @@ vectors_near s x a f two near = record {
     none : (row m : ℕ) → 12 ≤ m → number_at (vector_at ((x ∷ []) ∷ []) m) row ≡ whole (pos 0)
     none row zero past = absurd (omega arith)
     none row (suc m) past = refl
+
+-- a system that was made for power 0 alone is constant, whatever numbers are set in it
+pub stays_constant : (made set both : StoredSystem) → IsMadeFor 1 0 [] made → HaveSamePlaces made set
+    → HaveSamePlaces set both → IsConstant both
+stays_constant made set both is_made first second = rw (second.degree, first.degree, is_made.degree_is) refl
 
 -- a number within a unit is within three
 within_three : (x : Fraction) (f : ℤ) → size (x -ℚ units f) ≤ℚ units (pos 1) → size (x -ℚ units f) ≤ℚ units (pos 3)

@@ -28,7 +28,7 @@ in_range product plain formed own =
 -- the ends of a midpoint at issue by the product's ledgers
 pub value_by_ledgers : (p : PlainProduct) (v : Valued) (g w : ℕ) (mid : ℤ) → g ≡ scale p → w ≡ radius p → g ≤ 56
     → IsMidpoint p g (cells_of p) mid (radius p) → AreEnds mid w g v.lo v.hi → v.scale ≡ g
-    → v.tolerance ≡ tolerance_first w g → v.degree ≡ 24 → IsPlainValue p v
+    → v.tolerance ≡ tolerance_first w g → v.degree ≡ 8 → IsPlainValue p v
 value_by_ledgers p v g w mid is_scale is_radius most held ends scale_is tolerance_is degree_is =
     record {
       encloses = ends_enclose p g w mid v.lo v.hi (rw is_radius held) ends;
@@ -49,7 +49,7 @@ value_in_model product plain v formed own right =
     let ledgers = plain_ledgers product plain.force plain.rate formed own.is_plain in
     record {
       row = λ row is_value low high.
-          (plain_rows_hold product plain.force plain.rate formed own.is_plain row 24 is_value).1
+          (plain_rows_hold product plain.force plain.rate formed own.is_plain row 8 is_value).1
           (rw (low, high) same.encloses);
       narrow = same.narrow;
       tolerance_is = same.tolerance_is ∙ ap (λ x. tolerance_first x (scale p)) (sym ledgers.radius_is)

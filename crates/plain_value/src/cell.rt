@@ -2,6 +2,7 @@
 
 ghost use Rattle.std.specs.Prelude.{◌≡◌, ◌*◌, ◌^◌, ◌≤◌, pos, ◌*ℤ◌, ◌≤ℤ◌, neg_ℤ, unsigned_abs, IfOk};
 ghost use Rattle.frac_laws.specs.Rounding.{floor_of};
+ghost use Rattle.linear_system.specs.DegreeLimit.{IsConstant};
 ghost use Rattle.linear_system.specs.StandsFor.{StandsFor};
 ghost use Rattle.plain_laws.specs.PlainProduct.{HasRanges};
 ghost use Rattle.plain_laws.specs.PlainSystem.{plain_system};
@@ -41,7 +42,8 @@ pub(crate) fn cell_system(alloc: Global, plain: Plain, scale: u32) -> Result<Cel
     requires ranges { HasRanges (plain_product_of plain) }
     requires scale { scale ≤ 56 }
     requires within { unsigned_abs plain.rate ≤ 6 * 2 ^ scale }
-    ensures { IfOk result (λ system. StandsFor system (plain_system (plain_product_of plain) scale)) }
+    ensures stands { IfOk result (λ system. StandsFor system (plain_system (plain_product_of plain) scale)) }
+    ensures constant { IfOk result IsConstant }
 {
     let mut system = CellSystem::new(alloc, 1, 0, &[])?;
     system.set(0, 0, 0, interest_number(plain.force, plain.den));

@@ -124,7 +124,7 @@ fn an_annuity_without_interest_is_within_a_millionth(rt: HostRuntime) -> Result<
         hi: 384_000_001,
         scale: 10,
         tolerance: 3,
-        degree: 24,
+        degree: 8,
     };
     assert_eq!(rt; valued, wanted);
     Ok(())

@@ -21,9 +21,6 @@ use taylor_step::Steps;
 // What each cell adds to the radius, in units of 2^-64: more than a step rounds.
 const STEP_RADIUS: u128 = 1024;
 
-// The degree of the Taylor steps.
-const DEGREE: u8 = 24;
-
 /// The value of a product just before issue.
 #[derive(Clone, Copy, Debug, PartialEq, Eq)]
 pub struct Valued {
@@ -81,13 +78,13 @@ fn swept_value<L: Ledger>(
     ensures { IfOk result (IsPlainValue (plain_product_of plain)) }
 {
     let mut steps = Steps::<L>::open(blank);
-    let mid = midpoint(alloc, plain, ledgers.scale, &mut steps)?;
+    let swept = midpoint(alloc, plain, ledgers.scale, &mut steps)?;
     Ok(Valued {
-        lo: lower_end(mid, ledgers.radius, ledgers.scale),
-        hi: upper_end(mid, ledgers.radius, ledgers.scale),
+        lo: lower_end(swept.mid, ledgers.radius, ledgers.scale),
+        hi: upper_end(swept.mid, ledgers.radius, ledgers.scale),
         scale: ledgers.scale,
         tolerance: tolerance_first(ledgers.radius, ledgers.scale),
-        degree: DEGREE,
+        degree: swept.degree,
     })
 }
 

@@ -11,7 +11,7 @@ use Rattle.model_specs.specs.Whole.{natural_part}
 use Rattle.model_specs.specs.MonthNumbers.{coefficient_at}
 use Rattle.model_specs.specs.RecordRules.{StartsRise, IsCurve, IsBounded, IsBoundedCurve}
 use Rattle.model_specs.specs.RecordRules.{HasGoodCurves}
-use Rattle.model_specs.proofs.ListsByPlace.{length-list_of}
+use Rattle.model_laws.proofs.ListsByPlace.{length-list_of}
 use Rattle.product_file.specs.Checks.{first_failed, first_failed_of_lists}
 use Rattle.product_file.specs.Members.{whole_of, item_at, items_of, members_of, wholes_of}
 use Rattle.product_file.specs.TransitionRule.{transition_items}

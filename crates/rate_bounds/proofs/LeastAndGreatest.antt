@@ -47,6 +47,26 @@ least_more : (n : ℕ) (f : ℕ → ℤ)
     → least_whole (list_of (suc n + 1) f) ≡ int_min (least_whole (list_of (suc n) f)) (f (suc n))
 least_more n f = ap least_whole (list_of_more (suc n) f) ∙ least-push (f 0) (list_of n (λ i. f (suc i))) (f (suc n))
 
+int_max_assoc : (a b c : ℤ) → int_max a (int_max b c) ≡ int_max (int_max a b) c
+int_max_assoc a b c = grind (arith, ints)
+
+greatest-push : (x : ℤ) (xs : List ℤ) (y : ℤ)
+    → greatest_whole ((x ∷ xs) ++ y ∷ []) ≡ int_max (greatest_whole (x ∷ xs)) y
+greatest-push x [] y = refl
+greatest-push x (z ∷ xs) y = ap (int_max x) (greatest-push z xs y) ∙ int_max_assoc x (greatest_whole (z ∷ xs)) y
+
+greatest_more : (n : ℕ) (f : ℕ → ℤ)
+    → greatest_whole (list_of (suc n + 1) f) ≡ int_max (greatest_whole (list_of (suc n) f)) (f (suc n))
+greatest_more n f =
+    ap greatest_whole (list_of_more (suc n) f) ∙ greatest-push (f 0) (list_of n (λ i. f (suc i))) (f (suc n))
+
+-- the greatest, with one number more
+pub greatest_more_at : (n : ℕ) (f : ℕ → ℤ) (most x next : ℤ) → 1 ≤ n → most ≡ greatest_whole (list_of n f) → x ≡ f n
+    → next ≡ int_max most x → next ≡ greatest_whole (list_of (n + 1) f)
+greatest_more_at zero f most x next some sofar here is = absurd (omega arith)
+greatest_more_at (suc n) f most x next some sofar here is =
+    is ∙ ap (λ z. int_max z x) sofar ∙ ap (int_max (greatest_whole (list_of (suc n) f))) here ∙ sym (greatest_more n f)
+
 -- a test that the lesser of two numbers passes where both do
 pub record GoesByLeast (P : ℤ → Bool) : Type 0 where
   pub none : P (pos 0) ≡ true

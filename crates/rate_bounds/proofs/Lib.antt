@@ -3,11 +3,11 @@ pub mod CellSteps
 pub mod ConstantPayments
 pub mod DatedRadii
 pub mod FirstBroken
+pub mod FewExits
 pub mod FirstMonths
 pub mod LeastAndGreatest
 pub mod LumpSteps
 pub mod MonthRules
-pub mod NaturalRates
 pub mod PaySteps
 pub mod RadiusSteps
 pub mod RateSteps

@@ -1,5 +1,5 @@
 -- Rules 15 to 17 of a month, from the greatest and the least of its numbers.
-use Rattle.std.proofs.Common.{◌≡◌, ℕ, ◌^◌, ℤ, pos, neg_ℤ, ◌*ℤ◌, ◌-ℤ◌, ◌≤ℤ◌, FitsSigned, List, [], ◌∷◌}
+use Rattle.std.proofs.Common.{◌≡◌, ℕ, ◌*◌, ◌^◌, ℤ, pos, neg_ℤ, ◌*ℤ◌, ◌-ℤ◌, ◌≤ℤ◌, FitsSigned, List, [], ◌∷◌}
 use Rattle.std.proofs.Common.{Bool, true, false, arith, refl, ap, sym, ◌∙◌, length}
 use Rattle.std.specs.Prelude.{int_le, ◌&&◌, map, slice_index_or}
 use Rattle.std.specs.List.{list_all}
@@ -8,10 +8,15 @@ use Rattle.std.proofs.lemmas.Int.{ints}
 use Rattle.std.proofs.lemmas.List.Folds.{list_all-map}
 use Rattle.model_specs.specs.Whole.{greatest_whole, least_whole}
 use Rattle.model_specs.specs.Product.{Product, Transition, no_transition}
-use Rattle.model_specs.specs.MonthNumbers.{curve_numerators, month_unit}
-use Rattle.model_specs.specs.ValuationRules.{obeys_rule_15, obeys_rule_16}
+use Rattle.model_specs.specs.MonthNumbers.{curve_numerators, month_unit, rho}
+use Rattle.model_specs.specs.ValuationRules.{obeys_rule_15, obeys_rule_16, obeys_rule_17}
 use Rattle.product_model.proofs.PlacedLists.{map-list_of, list_of_places}
+use Rattle.rate_bounds.specs.declared.curves.MonthCurves.{MonthCurves}
 use Rattle.rate_bounds.specs.MonthRates.{least_of, least_rate}
+use Rattle.rate_bounds.specs.declared.rules.MonthRule.{MonthRule}
+use Rattle.rate_bounds.specs.declared.rules.MonthRule.TheVariants.{Interest, Intensities, Exits}
+use Rattle.rate_bounds.specs.Breaks.{obeys}
+use Rattle.rate_bounds.specs.MonthTables.{AreCurves}
 use Rattle.rate_bounds.proofs.LeastAndGreatest.{all_by_least, all_by_greatest, list_all-both}
 
 lowest_of_two : (unit : ℕ) (a b : ℤ) → int_le (neg_ℤ (pos unit)) (pos 50 *ℤ int_min a b)
@@ -65,22 +70,32 @@ rates_by_least p month =
     (ap (map least_in) (sym (list_of_places p.transitions no_transition))
     ∙ map-list_of least_in (length p.transitions) (λ e. slice_index_or p.transitions e no_transition))
 
--- rule 15 as the program answers it
-pub rule_15_is : (p : Product) (month unit : ℕ) (numbers : List ℤ) (whole low high : ℤ) (is_low is_high : Bool)
-    → unit ≡ month_unit p → whole ≡ pos unit → numbers ≡ curve_numerators p.interest month
-    → low ≡ least_whole numbers → high ≡ greatest_whole numbers
-    → is_low ≡ int_le (neg_ℤ whole) (pos 50 *ℤ low) → is_high ≡ int_le (pos 4 *ℤ high) whole
-    → (is_low && is_high) ≡ obeys_rule_15 p month
-rule_15_is p month unit numbers whole low high is_low is_high unit_is whole_is numbers_are low_is high_is
-    low_answer high_answer =
-    ap (λ b. b && is_high) (low_answer ∙ ap (λ z. int_le (neg_ℤ z) (pos 50 *ℤ low)) whole_is
-    ∙ ap (λ z. int_le (neg_ℤ (pos unit)) (pos 50 *ℤ z)) low_is)
-    ∙ ap (λ b. int_le (neg_ℤ (pos unit)) (pos 50 *ℤ least_whole numbers) && b)
-    (high_answer ∙ ap (λ z. int_le (pos 4 *ℤ high) z) whole_is ∙ ap (λ z. int_le (pos 4 *ℤ z) (pos unit)) high_is)
-    ∙ sym (interest_by_extremes unit numbers)
-    ∙ ap (λ n. list_all (λ b. int_le (neg_ℤ (pos n)) (pos 50 *ℤ b) && int_le (pos 4 *ℤ b) (pos n)) numbers) unit_is
-    ∙ ap (list_all (λ b. int_le (neg_ℤ (pos (month_unit p))) (pos 50 *ℤ b) && int_le (pos 4 *ℤ b) (pos (month_unit p))))
-    numbers_are
+-- rule 15 as the program answers it, from the least and the greatest number of the interest
+pub rule_15_is : (product : Product) (month : ℕ) (curves : MonthCurves) → AreCurves product month curves
+    → (unit : ℤ) (is_low is_high : Bool) → unit ≡ pos (month_unit product)
+    → is_low ≡ int_le (neg_ℤ unit) (pos 50 *ℤ curves.low) → is_high ≡ int_le (pos 4 *ℤ curves.high) unit
+    → (is_low && is_high) ≡ obeys_rule_15 product month
+rule_15_is product month curves are unit is_low is_high unit_is low_answer high_answer =
+    let numbers = curve_numerators product.interest month in
+    ap (λ b. b && is_high) (low_answer ∙ ap (λ z. int_le (neg_ℤ z) (pos 50 *ℤ curves.low)) unit_is
+    ∙ ap (λ z. int_le (neg_ℤ (pos (month_unit product))) (pos 50 *ℤ z)) are.low)
+    ∙ ap (λ b. int_le (neg_ℤ (pos (month_unit product))) (pos 50 *ℤ least_whole numbers) && b)
+    (high_answer ∙ ap (λ z. int_le (pos 4 *ℤ curves.high) z) unit_is
+    ∙ ap (λ z. int_le (pos 4 *ℤ z) (pos (month_unit product))) are.high)
+    ∙ sym (interest_by_extremes (month_unit product) numbers)
+
+pub rule_16_is : (product : Product) (month : ℕ) (curves : MonthCurves) → AreCurves product month curves
+    → int_le (pos 0) curves.least ≡ obeys_rule_16 product month
+rule_16_is product month curves are = ap (int_le (pos 0)) are.least ∙ sym (rates_by_least product month)
+
+pub rule_17_is : (product : Product) (month : ℕ) (curves : MonthCurves) → AreCurves product month curves
+    → (unit : ℤ) → unit ≡ pos (month_unit product) → int_le curves.rho (pos 2 *ℤ unit) ≡ obeys_rule_17 product month
+rule_17_is product month curves are unit unit_is =
+    ap (λ z. int_le z (pos 2 *ℤ unit)) are.rho ∙ ap (λ u. int_le (rho product month) (pos 2 *ℤ u)) unit_is
+    ∙ ap (int_le (rho product month)) (twice (month_unit product))
+  where
+    twice : (u : ℕ) → pos 2 *ℤ pos u ≡ pos (2 * u)
+    twice u = omega (arith, ints)
 
 pub minus_fits : (unit : ℤ) → pos 1 ≤ℤ unit → unit ≤ℤ pos (2 ^ 62) → FitsSigned w128 (pos 0 -ℤ unit)
 minus_fits unit some most = omega (arith, ints)
@@ -101,3 +116,19 @@ rule_15_by_both is_low is_high answer passes is = rw passes at is
 
 pub rule_15_by_lowest : (is_low is_high answer : Bool) → is_low ≡ false → (is_low && is_high) ≡ answer → is_low ≡ answer
 rule_15_by_lowest is_low is_high answer fails is = fails ∙ rw fails at is
+
+-- whether a rule holds, by its name
+pub by_interest : (rule : MonthRule) (product : Product) (month : ℕ) (answer : Bool) → rule ≡ Interest
+    → answer ≡ obeys_rule_15 product month → answer ≡ obeys rule product month
+unfolding obeys
+by_interest rule product month answer is h = rw is h
+
+pub by_intensities : (rule : MonthRule) (product : Product) (month : ℕ) (answer : Bool) → rule ≡ Intensities
+    → answer ≡ obeys_rule_16 product month → answer ≡ obeys rule product month
+unfolding obeys
+by_intensities rule product month answer is h = rw is h
+
+pub by_exits : (rule : MonthRule) (product : Product) (month : ℕ) (answer : Bool) → rule ≡ Exits
+    → answer ≡ obeys_rule_17 product month → answer ≡ obeys rule product month
+unfolding obeys
+by_exits rule product month answer is h = rw is h

@@ -3,7 +3,7 @@ use Rattle.std.proofs.Common.{◌≡◌, ℕ, suc, ◌+◌, ◌-◌, ◌^◌, �
 use Rattle.std.proofs.Common.{List, length, get_or}
 use Rattle.model_specs.specs.Whole.{list_of}
 use Rattle.model_specs.specs.Product.{Product}
-use Rattle.model_specs.proofs.ListsByPlace.{at-list_of, length-list_of}
+use Rattle.model_laws.proofs.ListsByPlace.{at-list_of, length-list_of}
 use Rattle.model_specs.specs.Growth.{kappa40}
 use Rattle.model_specs.specs.Ledgers.{grow_cells, radius, radius_before_term, radius_forward}
 use Rattle.model_specs.specs.RecordRules.{IsWellFormed}

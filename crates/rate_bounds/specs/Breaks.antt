@@ -5,10 +5,18 @@ use Rattle.model_specs.specs.Product.{Product}
 use Rattle.model_specs.specs.ValuationRules as model
 use Rattle.model_specs.specs.ValuationRules.{broken_in_months, first_given, obeys_rule_15, obeys_rule_16, obeys_rule_17}
 use Rattle.product_model.specs.declared.breaks.RuleBreak.{RuleBreak}
+use Rattle.rate_bounds.specs.declared.rules.MonthRule.{MonthRule}
+use Rattle.rate_bounds.specs.declared.rules.MonthRule.TheVariants.{Interest, Intensities, Exits}
 
 -- a broken rule as a plain record
 abbrev pub break_of : RuleBreak → model.RuleBreak
 break_of b = record { rule = b.rule; place = b.place }
+
+-- whether one of rules 15 to 17 holds in a month
+unfoldable pub obeys : MonthRule → Product → ℕ → Bool
+obeys Interest = obeys_rule_15
+obeys Intensities = obeys_rule_16
+obeys Exits = obeys_rule_17
 
 -- the least month of the term in which a rule is broken
 unfoldable pub first_breaking : (ℕ → Bool) → ℕ → Option ℕ

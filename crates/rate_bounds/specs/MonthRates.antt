@@ -1,24 +1,16 @@
--- The intensities of a month, as natural numbers over 2488320 den a year.
-use Rattle.std.specs.Prelude.{ℕ, ℤ, List, length, map, sum}
-use Rattle.model_specs.specs.Whole.{list_of, greatest_natural, least_whole, natural_part}
+-- The intensities of a month, over 2488320 den a year.
+use Rattle.std.specs.Prelude.{ℕ, ℤ, List, length, map}
+use Rattle.model_specs.specs.Whole.{list_of, least_whole, natural_part, whole_sum}
 use Rattle.model_specs.specs.Product.{Product, transition_at}
-use Rattle.model_specs.specs.MonthNumbers.{curve_numerators, greatest_rate, exits}
+use Rattle.model_specs.specs.MonthNumbers.{curve_numerators, greatest_rate}
 
 -- the greatest rate of a transition, and 0 where it is below 0
 unfoldable pub rate_part : Product → ℕ → ℕ → ℕ
 rate_part product month e = natural_part (greatest_rate product e month)
 
--- the sum of these over some transitions
-unfoldable pub rate_sum : Product → ℕ → List ℕ → ℕ
-rate_sum product month transitions = sum (map (rate_part product month) transitions)
-
--- the sum of these over the exits of a state
-unfoldable pub exit_sum : Product → ℕ → ℕ → ℕ
-exit_sum product month i = rate_sum product month (exits product i)
-
--- the greatest of these sums
-unfoldable pub greatest_exit_sum : Product → ℕ → ℕ
-greatest_exit_sum product month = greatest_natural (list_of (length product.states) (exit_sum product month))
+-- the sum of the greatest rates of some transitions
+unfoldable pub rate_sum : Product → ℕ → List ℕ → ℤ
+rate_sum product month transitions = whole_sum (map (λ e. greatest_rate product e month) transitions)
 
 -- the least Bernstein coefficient of the intensity of a transition
 unfoldable pub least_of : Product → ℕ → ℕ → ℤ

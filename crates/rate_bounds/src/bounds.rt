@@ -5,10 +5,13 @@ ghost use Rattle.model_specs.specs.Payments.{payment_plan, pattern_plan};
 ghost use Rattle.model_specs.specs.MonthNumbers.{rho, iota, nu};
 ghost use Rattle.model_specs.specs.Growth.{kappa40, pay};
 ghost use Rattle.ledger_laws.specs.MonthLaws.{ObeysMonthRules};
+ghost use Rattle.rate_bounds.specs.MonthTables.{AreBounds, AreCurves};
 
-use crate::growth::kappa40;
-use crate::numbers::month_numbers;
+use crate::curves::{MonthCurves, month_curves};
+use crate::growth::{iota, kappa40, nu};
 use crate::pay::pay1024;
+use crate::rates::month_unit;
+use ledger_laws::month_numbers_are_small;
 use payment_plan::Which;
 use product_model::Product;
 
@@ -26,24 +29,35 @@ pub struct MonthBounds {
     pub pattern1024: u128,
 }
 
-/// The bounds of a month in which rules 15 to 17 hold. Takes no memory.
-pub fn month_bounds(p: &Product, month: u32) -> MonthBounds
-    requires month { month < p.now.months }
-    requires rules { ObeysMonthRules p.now month }
-    ensures rho { result.rho ≡ rho p.now month }
-    ensures iota { result.iota ≡ pos (iota p.now month) }
-    ensures nu { result.nu ≡ pos (nu p.now month) }
-    ensures kappa40 { result.kappa40 ≡ kappa40 p.now month }
-    ensures pay { result.pay1024 ≡ pay p.now (payment_plan p.now) month }
-    ensures pattern { result.pattern1024 ≡ pay p.now (pattern_plan p.now) month }
+/// The bounds of a month from its numbers, where rules 15 to 17 hold.
+pub(crate) fn bounds_by(product: &Product, curves: MonthCurves, month: u32) -> MonthBounds
+    requires month { month < product.now.months }
+    requires rules { ObeysMonthRules product.now month }
+    requires numbers { AreCurves product.now month curves }
+    ensures { AreBounds product.now month result }
 {
-    let numbers = month_numbers(p, month);
+    month_numbers_are_small();
+    let unit = month_unit(product);
     MonthBounds {
-        rho: numbers.rho as i128,
-        iota: numbers.iota as i128,
-        nu: numbers.nu as i128,
-        kappa40: kappa40(numbers),
-        pay1024: pay1024(p, Which::Benefits, month),
-        pattern1024: pay1024(p, Which::Pattern, month),
+        rho: curves.rho,
+        iota: iota(curves) as i128,
+        nu: nu(curves) as i128,
+        kappa40: kappa40(curves, unit),
+        pay1024: pay1024(product, Which::Benefits, month),
+        pattern1024: pay1024(product, Which::Pattern, month),
     }
+}
+
+/// The bounds of a month in which rules 15 to 17 hold. Takes no memory.
+pub fn month_bounds(product: &Product, month: u32) -> MonthBounds
+    requires month { month < product.now.months }
+    requires rules { ObeysMonthRules product.now month }
+    ensures rho { result.rho ≡ rho product.now month }
+    ensures iota { result.iota ≡ pos (iota product.now month) }
+    ensures nu { result.nu ≡ pos (nu product.now month) }
+    ensures kappa40 { result.kappa40 ≡ kappa40 product.now month }
+    ensures pay { result.pay1024 ≡ pay product.now (payment_plan product.now) month }
+    ensures pattern { result.pattern1024 ≡ pay product.now (pattern_plan product.now) month }
+{
+    bounds_by(product, month_curves(product, month), month)
 }

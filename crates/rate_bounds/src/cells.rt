@@ -5,9 +5,7 @@ ghost use Rattle.model_specs.specs.Ledgers as ledgers;
 ghost use Rattle.rate_bounds.specs.SecondCells.{SecondFits};
 
 use ledger_bounds::grow;
-
-// What each cell adds to a radius, in units of 2^-64.
-const CELL: u128 = 1024;
+use named_numbers::{CELL_ROUNDING, PAY_UNIT};
 
 /// A ledger after some cells of a month, each of which adds the same.
 pub(crate) fn grow_cells(start: u128, kappa40: u64, add: u128, cells: u32) -> u128
@@ -46,9 +44,9 @@ pub(crate) fn second_grow_cells(
         second = grow(
             second,
             kappa40,
-            (2 * pay1024 * w).div_ceil(CELL * largest) + CELL,
+            (2 * pay1024 * w).div_ceil(PAY_UNIT * largest) + CELL_ROUNDING,
         );
-        w = grow(w, kappa40, CELL);
+        w = grow(w, kappa40, CELL_ROUNDING);
     }
     second
 }

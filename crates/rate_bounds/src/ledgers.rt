@@ -37,15 +37,15 @@ pub(crate) struct Ledgers {
 }
 
 // The bound of the premium pattern, which always obeys rule 18.
-fn pattern_bound(p: &Product, months: &[MonthBounds]) -> PlanBound
-    requires rules { ObeysAllMonths p.now }
-    requires table { AreBoundsUpTo p.now p.now.months months.now }
-    ensures bound { result.bound1024 ≡ model.bound1024 p.now (plan_named Which.Pattern p.now) }
-    ensures scale { result.scale ≡ model.scale p.now (plan_named Which.Pattern p.now) }
+fn pattern_bound(product: &Product, months: &[MonthBounds]) -> PlanBound
+    requires rules { ObeysAllMonths product.now }
+    requires table { AreBoundsUpTo product.now product.now.months months.now }
+    ensures bound { result.bound1024 ≡ model.bound1024 product.now (plan_named Which.Pattern product.now) }
+    ensures scale { result.scale ≡ model.scale product.now (plan_named Which.Pattern product.now) }
 {
     pattern_bound_stays_small();
-    let _months = p.months();
-    let bound1024 = bound1024(p, months, Which::Pattern);
+    let _months = product.months();
+    let bound1024 = bound1024(product, months, Which::Pattern);
     PlanBound {
         bound1024,
         scale: plan_scale(bound1024),
@@ -55,24 +55,24 @@ fn pattern_bound(p: &Product, months: &[MonthBounds]) -> PlanBound
 /// The ledgers of a product whose payment plan has a bound that obeys rule 18.
 pub(crate) fn ledgers_of(
     alloc: Global,
-    p: &Product,
+    product: &Product,
     months: Vec<MonthBounds>,
     bound: u128,
 ) -> Result<Ledgers, AllocError>
-    requires rules { ObeysAllMonths p.now }
-    requires table { AreBoundsUpTo p.now p.now.months months.items }
-    requires bound { bound ≡ model.bound1024 p.now (payment_plan p.now) }
+    requires rules { ObeysAllMonths product.now }
+    requires table { AreBoundsUpTo product.now product.now.months months.items }
+    requires bound { bound ≡ model.bound1024 product.now (payment_plan product.now) }
     requires rule_18 { bound ≤ 2 ^ 66 }
-    ensures { IfOk result (AreLedgers p.now) }
+    ensures { IfOk result (AreLedgers product.now) }
 {
-    let pattern = pattern_bound(p, &months);
+    let pattern = pattern_bound(product, &months);
     let benefits = PlanBound {
         bound1024: bound,
         scale: plan_scale(bound),
     };
-    let radii = radii_back(alloc, p, &months)?;
-    let seconds = second_radii(alloc, p, &months, &radii, benefits.scale)?;
-    let forwards = radii_forward(alloc, p, &months)?;
+    let radii = radii_back(alloc, product, &months)?;
+    let seconds = second_radii(alloc, product, &months, &radii, benefits.scale)?;
+    let forwards = radii_forward(alloc, product, &months)?;
     Ok(Ledgers {
         months,
         benefits,

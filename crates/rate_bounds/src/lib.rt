@@ -13,7 +13,6 @@ mod first_month;
 mod growth;
 mod ledgers;
 mod lumps;
-mod numbers;
 mod pay;
 mod plan_bound;
 mod radii;

@@ -10,12 +10,12 @@ use payment_plan::Which;
 use product_model::{Product, plans_agree};
 
 /// The lumps of a date, each with its state.
-pub(crate) fn lumps_of(p: &Product, which: Which, date: u32) -> &[(usize, i64)]
-    requires { date ≤ p.now.months }
-    ensures { result.now ≡ lumps_at (length p.now.states) (plan_named which p.now) date }
+pub(crate) fn lumps_of(product: &Product, which: Which, date: u32) -> &[(usize, i64)]
+    requires { date ≤ product.now.months }
+    ensures { result.now ≡ lumps_at (length product.now.states) (plan_named which product.now) date }
 {
     plans_agree();
-    p.plan().lumps_at(which, date)
+    product.plan().lumps_at(which, date)
 }
 
 /// The greatest size of some lumps, in minor units.
@@ -30,11 +30,11 @@ pub(crate) fn greatest_of(lumps: &[(usize, i64)]) -> u64
 }
 
 /// The greatest size of the lumps of a date, in minor units.
-pub(crate) fn greatest_lump(p: &Product, which: Which, date: u32) -> u64
-    requires { date ≤ p.now.months }
-    ensures { result ≡ ledgers.greatest_lump p.now (plan_named which p.now) date }
+pub(crate) fn greatest_lump(product: &Product, which: Which, date: u32) -> u64
+    requires { date ≤ product.now.months }
+    ensures { result ≡ ledgers.greatest_lump product.now (plan_named which product.now) date }
 {
-    greatest_of(lumps_of(p, which, date))
+    greatest_of(lumps_of(product, which, date))
 }
 
 /// What the lumps of a date add to the second radius: where there are any, `2 l w / largest` rounded up and 4, with the

@@ -1,5 +1,6 @@
 -- Numbers set one after another: the places stay, and the numbers stay small.
-use Rattle.std.proofs.Common.{◌≡◌, ℕ, suc, zero, ◌<◌, ◌≤◌, ◌^◌, length, get_or, List, [], ◌∷◌, refl, ◌∙◌, arith, Bool, true, false}
+use Rattle.std.proofs.Common.{◌≡◌, ℕ, suc, zero, ◌<◌, ◌≤◌, ◌^◌, length, get_or, List, [], ◌∷◌, refl, ◌∙◌, arith}
+use Rattle.std.proofs.Common.{Bool, true, false}
 use Rattle.std.specs.Prelude.{ℤ, unsigned_abs, cond, nat_eq}
 use Rattle.linear_system.specs.Setting.{HasPlace, HaveSamePlaces, SetsOnly, is_same_place}
 use Rattle.linear_system.specs.StoredSystem.{StoredSystem, IsSystem, dim_of, row_of, place_of, stored_number}

@@ -1,5 +1,5 @@
-// Reads lines of a dimension, 3 or 12, and a number of steps, and prints for each what the numbers of all steps come
-// to: work to be timed beside the C program of bench/.
+//! Reads lines of a dimension, 3 or 12, and a number of steps, and prints for each what the numbers of all steps come
+//! to: work to be timed beside the C program of bench/.
 #![tactic(auto)]
 
 mod systems;

@@ -1,6 +1,6 @@
-// The two systems that are measured, with numbers that are made up.
+//! The two systems that are measured, with numbers that are made up.
 
-ghost use Rattle.std.specs.Prelude.{◌≡◌, ℕ, ◌^◌, ◌<◌, ◌≤◌, IfOk, length, unsigned_abs};
+ghost use Rattle.std.specs.Prelude.{◌^◌, ◌<◌, ◌≤◌, IfOk, length, unsigned_abs};
 ghost use Rattle.linear_system.specs.Setting.{HaveSamePlaces};
 ghost use Rattle.linear_system.specs.StoredSystem.{dim_of, row_of};
 ghost use Rattle.step_bench.specs.Small.{HasSmallNumbers, IsSmallSystem};

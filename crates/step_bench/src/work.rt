@@ -1,6 +1,6 @@
-// Many steps, one after another, each from a start of its own.
+//! Many steps, one after another, each from a start of its own.
 
-ghost use Rattle.std.specs.Prelude.{◌≡◌, ◌+◌, ◌<◌, ◌≤◌, ◌^◌, length};
+ghost use Rattle.std.specs.Prelude.{◌≡◌, ◌<◌, ◌^◌, length};
 ghost use Rattle.linear_system.specs.StoredSystem.{dim_of};
 ghost use Rattle.step_bench.specs.Small.{IsSmallSystem};
 ghost use Rattle.taylor_step.specs.CanStep.{AreAtMost};

@@ -77,7 +77,7 @@ module _ (exact stored : List Matrix) (m : ℕ) where
 pub number_past : (v : Vector) (d i : ℕ) → length v ≤ d → d ≤ i → number_at v i ≡ whole (pos 0)
 number_past v d i h k = get_or_past v i (whole (pos 0)) (omega arith)
 
-entry_past_rows : (matrices : List Matrix) (d m i j : ℕ) → length (matrix_at matrices m) ≤ d → d ≤ i
+pub entry_past_rows : (matrices : List Matrix) (d m i j : ℕ) → length (matrix_at matrices m) ≤ d → d ≤ i
     → entry_at matrices m i j ≡ whole (pos 0)
 entry_past_rows matrices d m i j h k =
     ap (λ v. number_at v j) (get_or_past (matrix_at matrices m) i [] (omega arith))
@@ -88,7 +88,7 @@ both_zero e f z = rw (e, f) (le_trans (le_of_equal (ap size (ring [] (hlevel ter
 
 -- a stored system's matrices, each of which is close to the exact one
 module _ (error d : ℕ) (stored exact : List Matrix) (s : MatricesStandFor error d stored exact) where
-  near_everywhere : (m i j : ℕ) → size (entry_at exact m i j -ℚ entry_at stored m i j) ≤ℚ units error
+  pub near_everywhere : (m i j : ℕ) → size (entry_at exact m i j -ℚ entry_at stored m i j) ≤ℚ units error
   near_everywhere m i j = elim (cases_lt i d) [
     | inl b ↦ elim (cases_lt j d) [
       | inl c ↦ s.near m i j b c

@@ -1,8 +1,8 @@
 -- Terms of a right side that are divided by k + 1: past the first power they count for half.
-use Rattle.std.specs.Prelude.{◌≡◌, ℕ, suc, zero, pos, [], ◌∷◌, ◌≤◌, ◌-◌}
+use Rattle.std.specs.Prelude.{◌≡◌, ℕ, suc, zero, pos, [], ◌∷◌, ◌≤◌, ◌-◌, ◌^◌}
 use Rattle.std.proofs.Common.{refl, arith}
 use Rattle.frac_laws.specs.Fraction.{Fraction, over, whole, ◌*ℚ◌, ◌≤ℚ◌}
-use Rattle.frac_laws.specs.Sums.{sum_to}
+use Rattle.frac_laws.specs.Sums.{sum_to, power}
 use Rattle.frac_laws.specs.Convolution.{convolution}
 use Rattle.frac_laws.proofs.FractionTerms.{ring, terms}
 use Rattle.frac_laws.proofs.Linear.{linear, claims, natural, ◌⊠◌}
@@ -12,7 +12,10 @@ use Rattle.frac_laws.proofs.Signs.{mul_natural}
 use Rattle.frac_laws.proofs.Convolutions.{sum_to_within}
 use Rattle.cell_laws.specs.Driven.{IsNatural}
 use Rattle.cell_laws.specs.ScalarLaws.{multiplied}
+use Rattle.cell_laws.specs.Tame.{weighted}
 use Rattle.cell_laws.proofs.Cancelling.{one_le_suc, two_le_suc}
+use Rattle.cell_laws.proofs.Decay.{eights_natural}
+use Rattle.cell_laws.proofs.TameSums.{weighted_natural}
 
 -- a_0, and half of each later a_m
 abbrev pub halved : (ℕ → Fraction) → ℕ → Fraction
@@ -55,6 +58,19 @@ pub short_total : (r : Fraction) (a : ℕ → Fraction) → IsShort r a → (n :
 short_total r a s n = le_trans (sum_to_within 12 n s.natural_terms s.past)
     (le_trans (sum_to_mono 12 (λ m b. s.small m))
     (linear (r ∷ []) (le_refl (whole (pos 0))) (hlevel claims) refl))
+
+-- weighted by 8^m it is at most (8^12 - 1) / 7 times r
+pub weighted_short_total : (r : Fraction) (a : ℕ → Fraction) → IsShort r a → (n : ℕ)
+    → sum_to n (weighted a) ≤ℚ over (pos (8 ^ 12)) 7 *ℚ r
+weighted_short_total r a s n = le_trans (sum_to_within 12 n (weighted_natural a s.natural_terms) past)
+    (le_trans (sum_to_mono 12 {g = weighted (λ m. r)} (λ m b. each m))
+    (linear (r ∷ []) (natural 1 7 ⊠ le_trans (s.natural_terms 0) (s.small 0)) (hlevel claims) refl))
+  where
+    past : (m : ℕ) → 12 ≤ m → weighted a m ≡ whole (pos 0)
+    past m b = rw (s.past m b) (ring (power (whole (pos 8)) m ∷ []) (hlevel terms) refl)
+
+    each : (m : ℕ) → weighted a m ≤ℚ weighted (λ m. r) m
+    each m = linear (power (whole (pos 8)) m ∷ a m ∷ r ∷ []) (eights_natural m ⊠ s.small m) (hlevel claims) refl
 
 pub halved_total : (r : Fraction) (a : ℕ → Fraction) → IsShort r a → (n : ℕ)
     → sum_to n (halved a) ≤ℚ over (pos 13) 2 *ℚ r

@@ -73,7 +73,7 @@ module _ (norm : Norm) (exact stored : List Matrix) where
       add_natural (matrix_norm_natural norm (matrix_at exact m)) (changes_natural m)
 
   -- |B_m v| <= (|A_m| + |A_m - B_m|) |v|
-  stored_image : (m : ℕ) (v : Vector) → norm_of_vector norm (image (matrix_at stored m) v)
+  pub stored_image : (m : ℕ) (v : Vector) → norm_of_vector norm (image (matrix_at stored m) v)
       ≤ℚ stored_factors norm exact stored m *ℚ norm_of_vector norm v
   stored_image m v = le_trans (le_of_equal (norm-same norm (image (matrix_at stored m) v)
       (subtract_lists (image (matrix_at exact m) v) (image (difference exact stored m) v)) numbers))

@@ -13,3 +13,4 @@ pub mod Steps
 pub mod StoredNorms
 pub mod StoredPairs
 pub mod StoredSteps
+pub mod Tails

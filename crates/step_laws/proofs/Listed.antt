@@ -28,7 +28,7 @@ item_at zero f i d b = absurd (omega arith)
 item_at (suc n) f zero d b = refl
 item_at (suc n) f (suc i) d b = item_at n (λ k. f (suc k)) i d (omega arith)
 
-item_past : {A : Type 0} (n : ℕ) (f : ℕ → A) (i : ℕ) (d : A) → n ≤ i → slice_index_or (listed n f) i d ≡ d
+pub item_past : {A : Type 0} (n : ℕ) (f : ℕ → A) (i : ℕ) (d : A) → n ≤ i → slice_index_or (listed n f) i d ≡ d
 item_past n f i d b = let e = length-listed n f in get_or_past (listed n f) i d (omega (arith, e))
 
 -- d numbers; d rows of d numbers; the powers up to 11

@@ -46,13 +46,9 @@ pub images_fit : (d : ℕ) (matrices : List Matrix) (x : ℕ → Vector) (k : �
 images_fit d matrices x k h = sum_over_fits d (suc k) (λ m. image (matrix_at matrices m) (x (k - m)))
     (λ m. image_fits d (matrix_at matrices m) (x (k - m)) (h m))
 
-module _ (d : ℕ) (stored : List Matrix) (h z : ℕ → Vector) (k : ℕ)
-    (rows : (m : ℕ) → length (matrix_at stored m) ≤ d) (right : length (h k) ≤ d)
-    (fits : length (z (suc k)) ≤ d)
-    (rounded : (i : ℕ) → i < d
-    → IsRoundedDown (convolved stored z k i +ℚ number_at (h k) i) (suc k) (number_at (z (suc k)) i)) where
+module _ (stored : List Matrix) (h z : ℕ → Vector) (k : ℕ) where
   -- B_0 z_k + .. + B_k z_0 + h_k
-  abbrev exact_sum : Vector
+  abbrev pub exact_sum : Vector
   exact_sum = add_lists (images stored z k) (h k)
 
   -- what is left of it
@@ -66,20 +62,27 @@ module _ (d : ℕ) (stored : List Matrix) (h z : ℕ → Vector) (k : ℕ)
       ∙ ap (λ t. t +ℚ number_at (h k) i) (number_at-images stored z k i))
       (number_at-scale_list (whole (pos (suc k))) (z (suc k)) i)
 
-  residue_fits : length residue ≤ d
-  residue_fits = subtract_lists_fits d exact_sum (scale_list (whole (pos (suc k))) (z (suc k)))
+-- a number that is rounded down leaves less than k + 1 units
+module _ (d : ℕ) (stored : List Matrix) (h z : ℕ → Vector) (k : ℕ)
+    (rows : (m : ℕ) → length (matrix_at stored m) ≤ d) (right : length (h k) ≤ d)
+    (fits : length (z (suc k)) ≤ d)
+    (rounded : (i : ℕ) → i < d
+    → IsRoundedDown (convolved stored z k i +ℚ number_at (h k) i) (suc k) (number_at (z (suc k)) i)) where
+  residue_fits : length (residue stored h z k) ≤ d
+  residue_fits = subtract_lists_fits d (exact_sum stored h z k) (scale_list (whole (pos (suc k))) (z (suc k)))
       (add_lists_fits d (images stored z k) (h k) (images_fit d stored z k rows) right)
       (scale_list_fits d (whole (pos (suc k))) (z (suc k)) fits)
 
   some_units : whole (pos 0) ≤ℚ whole (pos (suc k)) *ℚ units 1
   some_units = mul_natural (natural (suc k) 1) (natural 1 (2 ^ 64))
 
-  residue_within : AreWithin (whole (pos (suc k)) *ℚ units 1) residue
+  residue_within : AreWithin (whole (pos (suc k)) *ℚ units 1) (residue stored h z k)
   residue_within i = elim (cases_lt i d) [
-    | inl b ↦ rw (number_at-residue i)
+    | inl b ↦ rw (number_at-residue stored h z k i)
         (between (convolved stored z k i +ℚ number_at (h k) i)
         (number_at (z (suc k)) i) (rounded i b))
-    | inr b ↦ le_trans (le_of_equal (ap size (number_past residue d i residue_fits b) ∙ size_zero)) some_units
+    | inr b ↦ le_trans (le_of_equal (ap size (number_past (residue stored h z k) d i residue_fits b) ∙ size_zero))
+        some_units
   ]
     where
       between : (x q : Fraction) → IsRoundedDown x (suc k) q
@@ -89,6 +92,7 @@ module _ (d : ℕ) (stored : List Matrix) (h z : ℕ → Vector) (k : ℕ)
           (linear (x ∷ whole (pos (suc k)) ∷ q ∷ units 1 ∷ []) (le_of_lt r.within) (hlevel claims) refl)
 
   pub residue_is_small : (norm : Norm)
-      → norm_of_vector norm residue ≤ℚ spread norm d *ℚ (whole (pos (suc k)) *ℚ units 1)
+      → norm_of_vector norm (residue stored h z k) ≤ℚ spread norm d *ℚ (whole (pos (suc k)) *ℚ units 1)
   residue_is_small norm =
-      norm_of_small norm d (whole (pos (suc k)) *ℚ units 1) residue some_units residue_fits residue_within
+      norm_of_small norm d (whole (pos (suc k)) *ℚ units 1) (residue stored h z k) some_units residue_fits
+      residue_within

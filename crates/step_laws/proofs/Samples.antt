@@ -12,9 +12,11 @@ use Rattle.frac_laws.proofs.Linear.{natural}
 use Rattle.cell_laws.specs.Samples.{two}
 use Rattle.step_laws.specs.StandsFor.{units, entry_at, MatricesFit, VectorsFit, MatricesStandFor}
 use Rattle.step_laws.specs.StandsFor.{VectorsStandFor}
-use Rattle.step_laws.specs.RoundedRuns.{unrounded}
+use Rattle.step_laws.specs.RoundedRuns.{unrounded, at_last, after_window, HasWindow, AreEmptyAbove}
+use Rattle.step_laws.specs.RoundedRuns.{VectorsAreEmptyAbove, window_bound}
 use Rattle.step_laws.specs.Samples.{exact_system, stored_system, sample_start, sample_mid, sample_new}
-use Rattle.step_laws.specs.Samples.{sample_coefficients, SampleStaysNear}
+use Rattle.step_laws.specs.Samples.{sample_coefficients, sample_early, SampleStaysNear, SampleMayStop}
+use Rattle.step_laws.specs.Samples.{SampleMayNotStopAtNine, SampleIsRoundedEarly, SampleStaysNearEarly}
 use Rattle.step_laws.specs.Samples.{SampleStandsFor, SampleIsTame, SampleIsRounded, SampleStartIsNear}
 use Rattle.step_laws.proofs.Differences.{both_zero}
 use Rattle.step_laws.proofs.Steps.{steps_stay_within_their_radius}
@@ -210,6 +212,56 @@ sample_is_rounded = record {
     fits n e = grind arith
 
 pub sample_stays_near : SampleStaysNear
-sample_stays_near n b = steps_stay_within_their_radius Sup 3249759265 1 n stored_system exact_system sample_start
+sample_stays_near n b = steps_stay_within_their_radius Sup 3249759265 1 24 n stored_system exact_system sample_start
     sample_mid sample_new sample_coefficients sample_stands_for (omega arith) sample_is_tame sample_is_rounded
-    sample_start_is_near b
+    (at_last refl) sample_start_is_near b
+
+-- the run stops early
+early_total : (row : ℕ) → number_at sample_early row ≡ sum_to 11 (λ k. number_at (sample_coefficients k) row)
+unfolding ◌+ℚ◌
+early_total zero = sound refl
+early_total (suc zero) = sound refl
+early_total (suc (suc row)) = sound refl
+
+pub sample_is_rounded_early : SampleIsRoundedEarly
+sample_is_rounded_early = record {
+  starts = λ row. refl;
+  fits = λ k b. sample_is_rounded.fits k (omega arith);
+  rounded = λ k row b c. sample_is_rounded.rounded k row (omega arith) c;
+  total = early_total;
+}
+
+small : HasWindow 10 1 sample_coefficients
+unfolding ◌+ℚ◌ ◌*ℚ◌ ◌-ℚ◌ opposite is_not_negative size
+small zero zero b = record { le = refl }
+small zero (suc zero) b = record { le = refl }
+small zero (suc (suc i)) b = record { le = refl }
+small (suc zero) zero b = record { le = refl }
+small (suc zero) (suc zero) b = record { le = refl }
+small (suc zero) (suc (suc i)) b = record { le = refl }
+small (suc (suc m)) i b = absurd (omega arith)
+
+pub sample_may_stop : SampleMayStop
+sample_may_stop = after_window 1 (record { least = omega arith; most = omega arith; above = omega arith })
+    empty free_empty small
+  where
+    empty : AreEmptyAbove 1 stored_system.matrices
+    empty zero row col b = absurd (omega arith)
+    empty (suc zero) row col b = absurd (omega arith)
+    empty (suc (suc m)) row col b = refl
+
+    free_empty : VectorsAreEmptyAbove 1 stored_system.free
+    free_empty zero row b = absurd (omega arith)
+    free_empty (suc zero) row b = absurd (omega arith)
+    free_empty (suc (suc m)) row b = refl
+
+pub sample_may_not_stop_at_nine : SampleMayNotStopAtNine
+unfolding ◌+ℚ◌ ◌*ℚ◌ ◌-ℚ◌ opposite is_not_negative size
+sample_may_not_stop_at_nine window =
+    let small : size (number_at (sample_coefficients 8) 1) ≤ℚ window_bound 1 = window 1 1 (omega arith) in
+    absurd (let impossible : false ≡ true = small.le in cc)
+
+pub sample_stays_near_early : SampleStaysNearEarly
+sample_stays_near_early n b = steps_stay_within_their_radius Sup 3249759265 1 10 n stored_system exact_system
+    sample_start sample_mid sample_early sample_coefficients sample_stands_for (omega arith) sample_is_tame
+    sample_is_rounded_early sample_may_stop sample_start_is_near b

@@ -1,15 +1,17 @@
 -- The norms of what a stored system differs by from the exact one, and sums of tame systems' norms.
-use Rattle.std.specs.Prelude.{◌≡◌, ℕ, suc, zero, pos, List, [], ◌∷◌, length, ◌≤◌, ◌+◌, ◌-◌, ◌^◌}
+use Rattle.std.specs.Prelude.{◌≡◌, ℕ, suc, zero, pos, List, [], ◌∷◌, length, ◌<◌, ◌≤◌, ◌+◌, ◌-◌, ◌^◌}
 use Rattle.std.proofs.Common.{refl, ap, ◌∙◌, inl, inr, arith}
 use Rattle.std.proofs.lemmas.Bool.{cases_lt}
 use Rattle.frac_laws.specs.Fraction.{Fraction, over, whole, ◌+ℚ◌, ◌*ℚ◌, ◌-ℚ◌, ◌≤ℚ◌, size}
 use Rattle.frac_laws.specs.Sums.{sum_to, power}
-use Rattle.frac_laws.specs.Lists.{Vector, Matrix, number_at, vector_at, subtract_lists}
+use Rattle.frac_laws.specs.Lists.{Vector, Matrix, number_at, vector_at, matrix_at, subtract_lists}
 use Rattle.frac_laws.specs.Norms.{Norm}
 use Rattle.frac_laws.proofs.FractionTerms.{ring, terms}
 use Rattle.frac_laws.proofs.Linear.{linear, claims, natural, ◌⊞◌, ◌⊠◌}
 use Rattle.frac_laws.proofs.Order.{le_refl, le_trans, le_of_equal, le_antisym}
-use Rattle.frac_laws.proofs.Sums.{sum_to_ext, sum_to_add, sum_to_mono, sum_to_zeros}
+use Rattle.frac_laws.proofs.Sums.{sum_to_ext, sum_to_add, sum_to_mono}
+use Rattle.frac_laws.proofs.Convolutions.{sum_to_within}
+use Rattle.frac_laws.proofs.Quotients.{inverse}
 use Rattle.frac_laws.proofs.Lengths.{subtract_lists_fits}
 use Rattle.frac_laws.proofs.Vectors.{number_at-subtract_lists}
 use Rattle.frac_laws.proofs.Norms.{norm_natural, size_zero}
@@ -18,11 +20,14 @@ use Rattle.frac_laws.proofs.GeometricTails.{tail_of_eighths}
 use Rattle.cell_laws.specs.Tame.{matrix_norm_at, weighted, weighted_norm}
 use Rattle.cell_laws.specs.GrowthLaws.{later_powers}
 use Rattle.cell_laws.specs.ErrorLaws.{distance}
+use Rattle.cell_laws.proofs.Cancelling.{one_le_suc}
 use Rattle.cell_laws.proofs.TameSums.{matrix_norms_natural, weighted_within}
-use Rattle.step_laws.specs.StandsFor.{units, MatricesFit, MatricesStandFor, VectorsStandFor}
+use Rattle.step_laws.specs.StandsFor.{units, entry_at, MatricesFit, MatricesStandFor, VectorsStandFor}
+use Rattle.step_laws.specs.RoundedRuns.{AreEmptyAbove}
 use Rattle.step_laws.proofs.Differences.{change_is_small, no_change_past, number_past, both_zero}
+use Rattle.step_laws.proofs.Differences.{near_everywhere}
 use Rattle.step_laws.proofs.Images.{changes, stored_factors, changes_natural}
-use Rattle.step_laws.proofs.Halves.{IsShort, short_total}
+use Rattle.step_laws.proofs.Halves.{IsShort, short_total, weighted_short_total}
 use Rattle.step_laws.proofs.Residues.{spread, norm_of_small}
 
 -- stored matrices
@@ -35,12 +40,30 @@ module _ (norm : Norm) (error d : ℕ) (stored exact : List Matrix) (s : Matrice
     past = λ m b. no_change_past error d stored exact s norm m b;
   }
 
-  pub stored_total : (total : Fraction) → sum_to 24 (matrix_norm_at norm exact) ≤ℚ total
-      → sum_to 24 (stored_factors norm exact stored) ≤ℚ total +ℚ whole (pos 12) *ℚ r
-  stored_total total h = le_trans
-      (le_of_equal (sum_to_add 24 (matrix_norm_at norm exact) (changes norm exact stored)))
-      (linear (sum_to 24 (matrix_norm_at norm exact) ∷ sum_to 24 (changes norm exact stored) ∷ total ∷ r ∷ [])
-      (h ⊞ short_total r (changes norm exact stored) changes_are_short 24) (hlevel claims) refl)
+  pub stored_total : (n : ℕ) (total : Fraction) → sum_to n (matrix_norm_at norm exact) ≤ℚ total
+      → sum_to n (stored_factors norm exact stored) ≤ℚ total +ℚ whole (pos 12) *ℚ r
+  stored_total n total h = le_trans
+      (le_of_equal (sum_to_add n (matrix_norm_at norm exact) (changes norm exact stored)))
+      (linear (sum_to n (matrix_norm_at norm exact) ∷ sum_to n (changes norm exact stored) ∷ total ∷ r ∷ [])
+      (h ⊞ short_total r (changes norm exact stored) changes_are_short n) (hlevel claims) refl)
+
+  -- the weighted sum of the stored norms: what is off adds at most (8^12 - 1) / 7 times r
+  pub weighted_stored_total : (n : ℕ) → sum_to n (weighted (stored_factors norm exact stored))
+      ≤ℚ weighted_norm norm exact +ℚ over (pos (8 ^ 12)) 7 *ℚ r
+  weighted_stored_total n = join (sum_to n (weighted (stored_factors norm exact stored)))
+      (sum_to n (weighted (matrix_norm_at norm exact))) (sum_to n (weighted (changes norm exact stored)))
+      (weighted_norm norm exact) r
+      (sum_to_ext n (λ m b. parted (power (whole (pos 8)) m) (matrix_norm_at norm exact m)
+      (changes norm exact stored m))
+      ∙ sum_to_add n (weighted (matrix_norm_at norm exact)) (weighted (changes norm exact stored)))
+      (weighted_within norm exact n) (weighted_short_total r (changes norm exact stored) changes_are_short n)
+    where
+      parted : (e x y : Fraction) → e *ℚ (x +ℚ y) ≡ e *ℚ x +ℚ e *ℚ y
+      parted e x y = ring (e ∷ x ∷ y ∷ []) (hlevel terms) refl
+
+      join : (t x y w r : Fraction) → t ≡ x +ℚ y → x ≤ℚ w → y ≤ℚ over (pos (8 ^ 12)) 7 *ℚ r
+          → t ≤ℚ w +ℚ over (pos (8 ^ 12)) 7 *ℚ r
+      join t x y w r e h k = linear (t ∷ x ∷ y ∷ w ∷ r ∷ []) (le_of_equal e ⊞ h ⊞ k) (hlevel claims) refl
 
 -- stored free vectors
 module _ (norm : Norm) (error d : ℕ) (stored exact : List Vector) (s : VectorsStandFor error d stored exact) where
@@ -55,9 +78,9 @@ module _ (norm : Norm) (error d : ℕ) (stored exact : List Vector) (s : Vectors
       (s.stored_fit.numbers m))
       (λ i. rw (number_at-subtract_lists (vector_at exact m) (vector_at stored m) i) (h i))
 
-  near_everywhere : (m i : ℕ)
+  free_near_everywhere : (m i : ℕ)
       → size (number_at (vector_at exact m) i -ℚ number_at (vector_at stored m) i) ≤ℚ units error
-  near_everywhere m i = elim (cases_lt i d) [
+  free_near_everywhere m i = elim (cases_lt i d) [
     | inl b ↦ s.near m i b
     | inr b ↦ both_zero (number_past (vector_at exact m) d i (s.exact_fit.numbers m) b)
         (number_past (vector_at stored m) d i (s.stored_fit.numbers m) b) (natural error (2 ^ 64))
@@ -66,14 +89,14 @@ module _ (norm : Norm) (error d : ℕ) (stored exact : List Vector) (s : Vectors
   pub free_changes_are_short : IsShort (spread norm d *ℚ units error) free_changes
   free_changes_are_short = record {
     natural_terms = λ m. norm_natural norm (subtract_lists (vector_at exact m) (vector_at stored m));
-    small = λ m. within (units error) m (natural error (2 ^ 64)) (near_everywhere m);
+    small = λ m. within (units error) m (natural error (2 ^ 64)) (free_near_everywhere m);
     past = λ m b. le_antisym (le_trans (within (whole (pos 0)) m (le_refl _)
         (λ i. both_zero (s.exact_fit.no_more m i b) (s.stored_fit.no_more m i b) (le_refl _)))
         (linear (spread norm d ∷ []) (le_refl (whole (pos 0))) (hlevel claims) refl))
         (norm_natural norm (subtract_lists (vector_at exact m) (vector_at stored m)));
   }
 
--- an exact matrix beyond power 11 is 0, so a Taylor value of degree 24 or more meets each power
+-- an exact matrix beyond power 11 is 0
 pub no_norm_past : (norm : Norm) (d : ℕ) (matrices : List Matrix) → MatricesFit d matrices → (m : ℕ) → 12 ≤ m
     → matrix_norm_at norm matrices m ≡ whole (pos 0)
 no_norm_past norm d matrices f m b = le_antisym (le_trans
@@ -84,18 +107,46 @@ no_norm_past norm d matrices f m b = le_antisym (le_trans
     })) (linear (whole (pos d) ∷ []) (le_refl (whole (pos 0))) (hlevel claims) refl))
     (matrix_norms_natural norm matrices m)
 
-pub no_later_powers : (norm : Norm) (d : ℕ) (matrices : List Matrix) → MatricesFit d matrices → (n : ℕ)
-    → 24 ≤ n → later_powers norm matrices n ≡ whole (pos 0)
-no_later_powers norm d matrices f n b = sum_to_zeros (length matrices - n) (λ i c.
-    ap (λ t. over (pos 1) (suc (n + i)) *ℚ t) (no_norm_past norm d matrices f (n + i) (omega arith))
-    ∙ ring (over (pos 1) (suc (n + i)) ∷ []) (hlevel terms) refl)
+-- nor more than 12 r, if from power n on no norm is more than r
+pub later_powers_small : (norm : Norm) (d : ℕ) (matrices : List Matrix) → MatricesFit d matrices
+    → (r : Fraction) (n : ℕ) → ((m : ℕ) → n ≤ m → matrix_norm_at norm matrices m ≤ℚ r)
+    → later_powers norm matrices n ≤ℚ whole (pos 12) *ℚ r
+later_powers_small norm d matrices f r n small = le_trans
+    (sum_to_mono (length matrices - n) {g = λ i. matrix_norm_at norm matrices (n + i)} (λ i c. each (n + i)))
+    (le_trans (sum_to_within 12 (length matrices - n) {f = λ i. matrix_norm_at norm matrices (n + i)}
+    (λ i. matrix_norms_natural norm matrices (n + i))
+    (λ i c. no_norm_past norm d matrices f (n + i) (omega arith)))
+    (le_trans (sum_to_mono 12 {g = λ i. r} (λ i c. small (n + i) (omega arith)))
+    (linear (r ∷ []) (le_refl (whole (pos 0))) (hlevel claims) refl)))
+  where
+    part_le_one : (m : ℕ) → over (pos 1) (suc m) ≤ℚ whole (pos 1)
+    part_le_one m = linear (over (pos 1) (suc m) ∷ whole (pos (suc m)) ∷ [])
+        (one_le_suc m ⊠ natural 1 (suc m) ⊞ le_of_equal (inverse (suc m) (omega arith))) (hlevel claims) refl
+
+    each : (m : ℕ) → over (pos 1) (suc m) *ℚ matrix_norm_at norm matrices m ≤ℚ matrix_norm_at norm matrices m
+    each m = linear (over (pos 1) (suc m) ∷ matrix_norm_at norm matrices m ∷ [])
+        (part_le_one m ⊠ matrix_norms_natural norm matrices m) (hlevel claims) refl
+
+-- where above power d nothing is stored, that bound is of one unit for each number
+pub later_norm_small : (norm : Norm) (dim d : ℕ) (stored exact : List Matrix)
+    → MatricesStandFor 1 dim stored exact → AreEmptyAbove d stored → (m : ℕ) → d < m
+    → matrix_norm_at norm exact m ≤ℚ whole (pos dim) *ℚ units 1
+later_norm_small norm dim d stored exact s none m b =
+    matrix_norm_of_small norm dim (units 1) (matrix_at exact m) (natural 1 (2 ^ 64)) (record {
+      rows = s.exact_fit.rows m;
+      columns = s.exact_fit.columns m;
+      numbers = λ i j. le_trans (le_of_equal (ap size (bare i j))) (near_everywhere 1 dim stored exact s m i j);
+    })
+  where
+    bare : (i j : ℕ) → entry_at exact m i j ≡ entry_at exact m i j -ℚ entry_at stored m i j
+    bare i j = rw (none m i j b) (ring (entry_at exact m i j ∷ []) (hlevel terms) refl)
 
 -- what decays by eighths adds up to at most 8/7 of its bound
-pub decaying_total : (bound : Fraction) (v : ℕ → Fraction) → whole (pos 0) ≤ℚ bound
-    → ((k : ℕ) → weighted v k ≤ℚ bound) → whole (pos 7) *ℚ sum_to 24 v ≤ℚ whole (pos 8) *ℚ bound
-decaying_total bound v z h = plain (sum_to 24 (λ i. v (0 + i))) (sum_to 24 v)
-    (sum_to_ext 24 (λ i b. let e : 0 + i ≡ i = omega arith in ap v e))
-    (tail_of_eighths bound v 0 24 z (λ i b. h (0 + i)))
+pub decaying_total : (n : ℕ) (bound : Fraction) (v : ℕ → Fraction) → whole (pos 0) ≤ℚ bound
+    → ((k : ℕ) → weighted v k ≤ℚ bound) → whole (pos 7) *ℚ sum_to n v ≤ℚ whole (pos 8) *ℚ bound
+decaying_total n bound v z h = plain (sum_to n (λ i. v (0 + i))) (sum_to n v)
+    (sum_to_ext n (λ i b. let e : 0 + i ≡ i = omega arith in ap v e))
+    (tail_of_eighths bound v 0 n z (λ i b. h (0 + i)))
   where
     plain : (s t : Fraction) → s ≡ t
         → whole (pos 7) *ℚ power (whole (pos 8)) 0 *ℚ s ≤ℚ whole (pos 8) *ℚ bound

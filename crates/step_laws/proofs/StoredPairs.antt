@@ -12,10 +12,13 @@ use Rattle.frac_laws.proofs.Sums.{sum_to_ext, sum_to_add, sum_to_split, sum_to_z
 use Rattle.cell_laws.specs.Systems.{System}
 use Rattle.cell_laws.specs.Pairs.{CoupledPair}
 use Rattle.step_laws.specs.StandsFor.{StandsFor, MatricesStandFor, VectorsStandFor, PairStandsFor}
-use Rattle.step_laws.specs.RoundedRuns.{IsRoundedStep, IsSecondRoundedStep}
+use Rattle.step_laws.specs.RoundedRuns.{IsRoundedStep, IsSecondRoundedStep, PairMayStop}
+use Rattle.step_laws.specs.RoundedRuns.PairMayStop.{at_last, after_window}
 use Rattle.step_laws.specs.RoundedRuns.{unrounded, second_unrounded}
 use Rattle.step_laws.specs.StepLaws.{IsStartNear, IsPairStep}
 use Rattle.step_laws.specs.StoredSteps.{StoredNumbers, StoredStandForPair, IsStoredStep, stored_sum}
+use Rattle.step_laws.specs.StoredSteps.{StoredMayStop}
+use Rattle.step_laws.specs.StoredSteps.StoredMayStop.{at_last as stored_at_last, after_window as stored_after_window}
 use Rattle.step_laws.specs.StoredSteps.{NumbersStandFor, FreeNumbersStandFor, IsStoredPairStep}
 use Rattle.step_laws.specs.StoredSteps.{StoredFirstHalvesStayWithinTheirRadius}
 use Rattle.step_laws.specs.StoredSteps.{StoredSecondHalvesStayWithinTheirRadius}
@@ -23,7 +26,7 @@ use Rattle.step_laws.proofs.PairRadii.{first_halves_stay_within_their_radius}
 use Rattle.step_laws.proofs.PairRadii.{second_halves_stay_within_their_radius}
 use Rattle.step_laws.proofs.Listed.{vector_of, matrices_of, vectors_of, convolved_is, free_is}
 use Rattle.step_laws.proofs.Listed.{matrices_stand, vectors_stand}
-use Rattle.step_laws.proofs.StoredSteps.{listed_run}
+use Rattle.step_laws.proofs.StoredSteps.{listed_run, empty_matrices, empty_vectors, listed_window}
 
 -- a half that lists its own numbers stands for the exact half
 half_stands : (half : ℕ) (numbers : (m row col : ℕ) → Fraction) (free : (m row : ℕ) → Fraction)
@@ -42,8 +45,8 @@ half_stands half numbers free exact e h k = record {
       (vectors_stand 3 half free exact.free k);
 }
 
-module _ (s : StoredNumbers) (half : ℕ) (exact : CoupledPair) (mid new : Vector)
-    (z : (k row : ℕ) → Fraction) (h : StoredStandForPair s half exact) (step : IsStoredStep s mid new z) where
+module _ (degree : ℕ) (s : StoredNumbers) (half : ℕ) (exact : CoupledPair) (mid new : Vector)
+    (z : (k row : ℕ) → Fraction) (h : StoredStandForPair s half exact) (step : IsStoredStep degree s mid new z) where
   -- the numbers of the second half, and those of the coupling
   abbrev second_numbers : (m row col : ℕ) → Fraction
   second_numbers m row col = s.numbers m (half + row) (half + col)
@@ -138,33 +141,53 @@ module _ (s : StoredNumbers) (half : ℕ) (exact : CoupledPair) (mid new : Vecto
   drop_fits : (v : Vector) → length v ≤ s.dimension → length (drop half v) ≤ half
   drop_fits v l = let e = length-drop half v in let f = h.halves in omega (arith, e, f, l)
 
-  pub first_step : IsRoundedStep pair_of.first (take half mid) (take half new) first_run
-  first_step = listed_run half (unrounded pair_of.first first_run) (stored_sum s z) (take half mid)
+  pub first_step : IsRoundedStep degree pair_of.first (take half mid) (take half new) first_run
+  first_step = listed_run degree half (unrounded pair_of.first first_run) (stored_sum s z) (take half mid)
       (take half new) z (take_fits mid) (take_fits new)
       (λ row b. step.starts row (in_first row b) ∙ sym (get_or-take half mid row (whole (pos 0)) b))
       first_sum (λ k row b c. step.rounded k row b (in_first row c))
       (λ row b. get_or-take half new row (whole (pos 0)) b ∙ step.total row (in_first row b))
 
-  pub second_step : IsSecondRoundedStep pair_of first_run (drop half mid) (drop half new) second_run
-  second_step = listed_run half (second_unrounded pair_of first_run second_run)
+  pub second_step : IsSecondRoundedStep degree pair_of first_run (drop half mid) (drop half new) second_run
+  second_step = listed_run degree half (second_unrounded pair_of first_run second_run)
       (λ k row. stored_sum s z k (half + row)) (drop half mid) (drop half new) second_rows
       (drop_fits mid step.mid_fits) (drop_fits new step.new_fits)
       (λ row b. step.starts (half + row) (in_second row b) ∙ sym (get_or-drop half mid row (whole (pos 0))))
       second_sum (λ k row b c. step.rounded k (half + row) b (in_second row c))
       (λ row b. get_or-drop half new row (whole (pos 0)) ∙ step.total (half + row) (in_second row b))
 
-module _ (kappa40 rad rad2 received : ℕ) (c : Fraction) (s : StoredNumbers) (half : ℕ)
+  pub pair_stops : StoredMayStop degree s z → PairMayStop degree pair_of first_run second_run
+  pair_stops (stored_at_last e) = at_last e
+  pair_stops (stored_after_window d stop) = after_window d stop.early
+      (empty_matrices half d s.numbers (λ m row col b c l. stop.numbers m row col (in_first row b) (in_first col c) l)
+      h.first.no_more)
+      (empty_vectors half d s.free (λ m row b l. stop.free m row (in_first row b) l) h.first_free.no_more)
+      (empty_matrices half d second_numbers
+      (λ m row col b c l. stop.numbers m (half + row) (half + col) (in_second row b) (in_second col c) l)
+      h.second.no_more)
+      (empty_vectors half d second_free (λ m row b l. stop.free m (half + row) (in_second row b) l)
+      h.second_free.no_more)
+      (empty_matrices half d coupling_numbers
+      (λ m row col b c l. stop.numbers m (half + row) col (in_second row b) (in_first col c) l)
+      h.coupling.no_more)
+      (listed_window half degree d z (λ m row b l. stop.window m row (in_first row b) l))
+      (listed_window half degree d second_rows (λ m row b l. stop.window m (half + row) (in_second row b) l))
+
+module _ (kappa40 rad rad2 received degree : ℕ) (c : Fraction) (s : StoredNumbers) (half : ℕ)
     (exact : CoupledPair) (y y2 mid new : Vector) (z : (k row : ℕ) → Fraction)
-    (p : IsStoredPairStep kappa40 rad rad2 received c s half exact y y2 mid new z) where
-  pub pair_step : IsPairStep kappa40 rad rad2 received c (pair_of s half exact mid new z p.stands p.step) exact
+    (p : IsStoredPairStep kappa40 rad rad2 received degree c s half exact y y2 mid new z) where
+  pub pair_step : IsPairStep kappa40 rad rad2 received degree c
+      (pair_of degree s half exact mid new z p.stands p.step) exact
       y (take half mid) (take half new) y2 (drop half mid) (drop half new)
-      (first_run s half exact mid new z p.stands p.step) (second_run s half exact mid new z p.stands p.step)
+      (first_run degree s half exact mid new z p.stands p.step)
+      (second_run degree s half exact mid new z p.stands p.step)
   pair_step = record {
-    stands = pair_stands s half exact mid new z p.stands p.step;
+    stands = pair_stands degree s half exact mid new z p.stands p.step;
     dimension = subst (λ d. d ≤ 12) (sym p.stands.first_dimension) p.dimension;
     tame = p.tame;
-    first_step = first_step s half exact mid new z p.stands p.step;
-    second_step = second_step s half exact mid new z p.stands p.step;
+    first_step = first_step degree s half exact mid new z p.stands p.step;
+    second_step = second_step degree s half exact mid new z p.stands p.step;
+    stops = pair_stops degree s half exact mid new z p.stands p.step p.stops;
     first_start = subst (λ d. IsStartNear Sup d (whole (pos 1)) rad y (take half mid))
         (sym p.stands.first_dimension) p.first_start;
     second_start = subst (λ d. IsStartNear Sup d (whole (pos 1)) rad2 y2 (drop half mid))
@@ -173,17 +196,17 @@ module _ (kappa40 rad rad2 received : ℕ) (c : Fraction) (s : StoredNumbers) (h
   }
 
 pub stored_first_halves_stay_within_their_radius : StoredFirstHalvesStayWithinTheirRadius
-stored_first_halves_stay_within_their_radius kappa40 rad rad2 received n c s half exact y y2 mid new z p b =
-    first_halves_stay_within_their_radius kappa40 rad rad2 received n c
-    (pair_of s half exact mid new z p.stands p.step) exact y (take half mid) (take half new) y2 (drop half mid)
-    (drop half new) (first_run s half exact mid new z p.stands p.step)
-    (second_run s half exact mid new z p.stands p.step)
-    (pair_step kappa40 rad rad2 received c s half exact y y2 mid new z p) b
+stored_first_halves_stay_within_their_radius kappa40 rad rad2 received degree n c s half exact y y2 mid new z p b =
+    first_halves_stay_within_their_radius kappa40 rad rad2 received degree n c
+    (pair_of degree s half exact mid new z p.stands p.step) exact y (take half mid) (take half new) y2 (drop half mid)
+    (drop half new) (first_run degree s half exact mid new z p.stands p.step)
+    (second_run degree s half exact mid new z p.stands p.step)
+    (pair_step kappa40 rad rad2 received degree c s half exact y y2 mid new z p) b
 
 pub stored_second_halves_stay_within_their_radius : StoredSecondHalvesStayWithinTheirRadius
-stored_second_halves_stay_within_their_radius kappa40 rad rad2 received n c s half exact y y2 mid new z p b =
-    second_halves_stay_within_their_radius kappa40 rad rad2 received n c
-    (pair_of s half exact mid new z p.stands p.step) exact y (take half mid) (take half new) y2 (drop half mid)
-    (drop half new) (first_run s half exact mid new z p.stands p.step)
-    (second_run s half exact mid new z p.stands p.step)
-    (pair_step kappa40 rad rad2 received c s half exact y y2 mid new z p) b
+stored_second_halves_stay_within_their_radius kappa40 rad rad2 received degree n c s half exact y y2 mid new z p b =
+    second_halves_stay_within_their_radius kappa40 rad rad2 received degree n c
+    (pair_of degree s half exact mid new z p.stands p.step) exact y (take half mid) (take half new) y2 (drop half mid)
+    (drop half new) (first_run degree s half exact mid new z p.stands p.step)
+    (second_run degree s half exact mid new z p.stands p.step)
+    (pair_step kappa40 rad rad2 received degree c s half exact y y2 mid new z p) b

@@ -9,7 +9,7 @@ use Rattle.cell_laws.specs.Tame.{IsTame}
 use Rattle.cell_laws.specs.ErrorLaws.{distance}
 use Rattle.cell_laws.specs.Samples.{plus, minus, two}
 use Rattle.step_laws.specs.StandsFor.{units, StandsFor}
-use Rattle.step_laws.specs.RoundedRuns.{IsRoundedStep}
+use Rattle.step_laws.specs.RoundedRuns.{IsRoundedStep, MayStop, HasWindow}
 use Rattle.step_laws.specs.StepLaws.{IsStartNear}
 
 -- two whole numbers of units
@@ -78,10 +78,29 @@ abbrev pub SampleIsTame : Type 0
 SampleIsTame = IsTame Sup 3249759265 exact_system
 
 abbrev pub SampleIsRounded : Type 0
-SampleIsRounded = IsRoundedStep stored_system sample_mid sample_new sample_coefficients
+SampleIsRounded = IsRoundedStep 24 stored_system sample_mid sample_new sample_coefficients
 
 abbrev pub SampleStartIsNear : Type 0
 SampleStartIsNear = IsStartNear Sup 2 (whole (pos 2)) 1 sample_start sample_mid
+
+-- the sum of the first 11 coefficients: the run may stop at degree 10, since the numbers of the last one are at
+-- most 64 units in size and those before at most 512, and nothing is stored above power 1
+abbrev pub sample_early : Vector
+sample_early = two_units (pos 31013312914999127205) (neg_ℤ (pos 15925343817427796586))
+
+abbrev pub SampleMayStop : Type 0
+SampleMayStop = MayStop 10 stored_system sample_coefficients
+
+-- at degree 9 it may not: a number of the coefficient before the last one is 968 units in size
+abbrev pub SampleMayNotStopAtNine : Type 0
+SampleMayNotStopAtNine = ¬ HasWindow 9 1 sample_coefficients
+
+abbrev pub SampleIsRoundedEarly : Type 0
+SampleIsRoundedEarly = IsRoundedStep 10 stored_system sample_mid sample_early sample_coefficients
+
+abbrev pub SampleStaysNearEarly : Type 0
+SampleStaysNearEarly =
+    (n : ℕ) → 10 ≤ n → distance Sup (taylor_value exact_system sample_start n) sample_early ≤ℚ units 1025
 
 -- so each Taylor value of degree 24 or more from the start is within 1025 units of the sum
 abbrev pub SampleStaysNear : Type 0

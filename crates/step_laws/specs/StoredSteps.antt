@@ -10,7 +10,7 @@ use Rattle.cell_laws.specs.Pairs.{CoupledPair, second_taylor_value}
 use Rattle.cell_laws.specs.Tame.{IsTame, IsTamePair}
 use Rattle.cell_laws.specs.ErrorLaws.{distance}
 use Rattle.step_laws.specs.StandsFor.{units, entry_at, MatricesFit, VectorsFit}
-use Rattle.step_laws.specs.RoundedRuns.{IsRoundedDown}
+use Rattle.step_laws.specs.RoundedRuns.{IsRoundedDown, IsEarly, window_bound}
 use Rattle.step_laws.specs.StepLaws.{most_numbers, IsStartNear}
 
 -- numbers of matrices by power, row and column: each is at most some units away from the exact one, and all
@@ -63,48 +63,63 @@ abbrev pub stored_sum : StoredNumbers → ((k row : ℕ) → Fraction) → (k ro
 stored_sum s z k row =
     sum_to (suc k) (λ m. sum_to s.dimension (λ col. s.numbers m row col *ℚ z (k - m) col)) +ℚ s.free k row
 
--- 24 coefficients by power and row, each the stored sum divided by k + 1 and rounded down, and the new
--- vector, which is the sum of all 25
-pub record IsStoredStep (s : StoredNumbers) (mid new : Vector) (z : (k row : ℕ) → Fraction) : Type 0 where
+-- coefficients by power and row up to a degree, each the stored sum divided by k + 1 and rounded down, and the
+-- new vector, which is the sum of all
+pub record IsStoredStep (degree : ℕ) (s : StoredNumbers) (mid new : Vector) (z : (k row : ℕ) → Fraction) : Type 0 where
   pub mid_fits : length mid ≤ s.dimension
   pub new_fits : length new ≤ s.dimension
   pub starts : (row : ℕ) → row < s.dimension → z 0 row ≡ number_at mid row
-  pub rounded : (k row : ℕ) → k < 24 → row < s.dimension
+  pub rounded : (k row : ℕ) → k < degree → row < s.dimension
       → IsRoundedDown (stored_sum s z k row) (suc k) (z (suc k) row)
-  pub total : (row : ℕ) → row < s.dimension → number_at new row ≡ sum_to 25 (λ k. z k row)
+  pub total : (row : ℕ) → row < s.dimension → number_at new row ≡ sum_to (suc degree) (λ k. z k row)
+
+-- above power d no number other than 0 is stored, and each number of the coefficient m powers before the
+-- degree is at most 64 * 8^m units in size, for m up to d
+pub record StoredStopsEarly (degree d : ℕ) (s : StoredNumbers) (z : (k row : ℕ) → Fraction) : Type 0 where
+  pub early : IsEarly degree d
+  pub numbers : (m row col : ℕ) → row < s.dimension → col < s.dimension → d < m
+      → s.numbers m row col ≡ whole (pos 0)
+  pub free : (m row : ℕ) → row < s.dimension → d < m → s.free m row ≡ whole (pos 0)
+  pub window : (m row : ℕ) → row < s.dimension → m ≤ d → size (z (degree - m) row) ≤ℚ window_bound m
+
+pub data StoredMayStop (degree : ℕ) (s : StoredNumbers) (z : (k row : ℕ) → Fraction) : Type 0 where
+  at_last : degree ≡ 24 → StoredMayStop degree s z
+  after_window : (d : ℕ) → StoredStopsEarly degree d s z → StoredMayStop degree s z
 
 -- the promise of a step for them
 abbrev pub StoredStepsStayWithinTheirRadius : Type 0
 StoredStepsStayWithinTheirRadius =
-    (norm : Norm) (kappa40 rad n : ℕ) (s : StoredNumbers) (exact : System) (y mid new : Vector)
+    (norm : Norm) (kappa40 rad degree n : ℕ) (s : StoredNumbers) (exact : System) (y mid new : Vector)
     (z : (k row : ℕ) → Fraction)
     → StoredStandFor s exact → s.dimension ≤ most_numbers norm → IsTame norm kappa40 exact
-    → IsStoredStep s mid new z → IsStartNear norm exact.dimension (whole (pos 2)) rad y mid → 24 ≤ n
+    → IsStoredStep degree s mid new z → StoredMayStop degree s z
+    → IsStartNear norm exact.dimension (whole (pos 2)) rad y mid → degree ≤ n
     → distance norm (taylor_value exact y n) new ≤ℚ units (grow rad kappa40 1023)
 
 -- a step of the stored numbers of a pair, whose vectors are those of the first half and then of the second;
 -- `received` is a whole number of at least c times the first half's radius
-pub record IsStoredPairStep (kappa40 rad rad2 received : ℕ) (c : Fraction) (s : StoredNumbers) (half : ℕ)
+pub record IsStoredPairStep (kappa40 rad rad2 received degree : ℕ) (c : Fraction) (s : StoredNumbers) (half : ℕ)
     (exact : CoupledPair) (y y2 mid new : Vector) (z : (k row : ℕ) → Fraction) : Type 0 where
   pub stands : StoredStandForPair s half exact
   pub dimension : half ≤ 12
   pub tame : IsTamePair kappa40 c exact
-  pub step : IsStoredStep s mid new z
+  pub step : IsStoredStep degree s mid new z
+  pub stops : StoredMayStop degree s z
   pub first_start : IsStartNear Sup half (whole (pos 1)) rad y (take half mid)
   pub second_start : IsStartNear Sup half (whole (pos 1)) rad2 y2 (drop half mid)
   pub receives : c *ℚ whole (pos rad) ≤ℚ whole (pos received)
 
 abbrev pub StoredFirstHalvesStayWithinTheirRadius : Type 0
 StoredFirstHalvesStayWithinTheirRadius =
-    (kappa40 rad rad2 received n : ℕ) (c : Fraction) (s : StoredNumbers) (half : ℕ) (exact : CoupledPair)
+    (kappa40 rad rad2 received degree n : ℕ) (c : Fraction) (s : StoredNumbers) (half : ℕ) (exact : CoupledPair)
     (y y2 mid new : Vector) (z : (k row : ℕ) → Fraction)
-    → IsStoredPairStep kappa40 rad rad2 received c s half exact y y2 mid new z → 24 ≤ n
+    → IsStoredPairStep kappa40 rad rad2 received degree c s half exact y y2 mid new z → degree ≤ n
     → distance Sup (taylor_value exact.first y n) (take half new) ≤ℚ units (grow rad kappa40 1023)
 
 abbrev pub StoredSecondHalvesStayWithinTheirRadius : Type 0
 StoredSecondHalvesStayWithinTheirRadius =
-    (kappa40 rad rad2 received n : ℕ) (c : Fraction) (s : StoredNumbers) (half : ℕ) (exact : CoupledPair)
+    (kappa40 rad rad2 received degree n : ℕ) (c : Fraction) (s : StoredNumbers) (half : ℕ) (exact : CoupledPair)
     (y y2 mid new : Vector) (z : (k row : ℕ) → Fraction)
-    → IsStoredPairStep kappa40 rad rad2 received c s half exact y y2 mid new z → 24 ≤ n
+    → IsStoredPairStep kappa40 rad rad2 received degree c s half exact y y2 mid new z → degree ≤ n
     → distance Sup (second_taylor_value exact y y2 n) (drop half new)
     ≤ℚ units (grow rad2 kappa40 (received + 1023))

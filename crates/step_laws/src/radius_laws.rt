@@ -4,8 +4,9 @@ ghost use Rattle.step_laws.specs.StepLaws.{StepsStayWithinTheirRadius};
 ghost use Rattle.step_laws.specs.StepLaws.{FirstHalvesStayWithinTheirRadius};
 ghost use Rattle.step_laws.specs.StepLaws.{SecondHalvesStayWithinTheirRadius};
 
-/// 24 coefficients of a stored system, each rounded down once, add up with their start to a vector within the
-/// grown radius of each Taylor value of degree 24 or more of the exact system, in both norms.
+/// Coefficients of a stored system, each rounded down once, add up with their start to a vector within the grown
+/// radius of each later Taylor value of the exact system, in both norms. They go up to degree 24, or to one from 8
+/// on where they are small for as many powers back as numbers are stored.
 pub fn steps_stay_within_their_radius()
     ensures { StepsStayWithinTheirRadius }
 {}

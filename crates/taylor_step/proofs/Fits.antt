@@ -61,7 +61,7 @@ counted r total n d error parts most h k room =
 
 -- ---- in Sup
 
-rows_in_sup : (s : StoredSystem) (e : System) (kappa40 : ℕ) → IsSystem s → StandsFor s e
+pub rows_in_sup : (s : StoredSystem) (e : System) (kappa40 : ℕ) → IsSystem s → StandsFor s e
     → IsTame Sup kappa40 e
     → RowsAreWithin s (2 ^ 58 + 288)
 rows_in_sup s e kappa40 sys stands tame n row few b =
@@ -71,11 +71,11 @@ rows_in_sup s e kappa40 sys stands tame n row few b =
 
 -- ---- in Sum
 
-column_bound : StoredSystem → System → ℕ → Fraction
+unfoldable pub column_bound : StoredSystem → System → ℕ → Fraction
 column_bound s e m = whole (pos (2 ^ 64)) *ℚ (matrix_norm_at Sum e.matrices m +ℚ whole (pos (dim_of s)) *ℚ
     units (pos 1))
 
-columns_in_sum : (s : StoredSystem) (e : System) (kappa40 : ℕ) → IsSystem s → StandsFor s e
+pub columns_in_sum : (s : StoredSystem) (e : System) (kappa40 : ℕ) → IsSystem s → StandsFor s e
     → IsTame Sum kappa40 e
     → ColumnsAreWithin s (column_bound s e) (2 ^ 58 + 288)
 unfolding column_bound
@@ -117,7 +117,7 @@ coupling_total kappa40 c p tame =
 
 module _ (s : StoredSystem) (half : ℕ) (p : CoupledPair) (kappa40 : ℕ) (c : Fraction) (sys : IsSystem s)
     (stands : StandsForPair s half p) (tame : IsTamePair kappa40 c p) where
-  half_small : half ≤ 12
+  pub half_small : half ≤ 12
   half_small = omega (arith, sys.dim_small, stands.halves)
 
   -- a row's sizes over the columns of both halves
@@ -136,7 +136,7 @@ module _ (s : StoredSystem) (half : ℕ) (p : CoupledPair) (kappa40 : ℕ) (c : 
       ap (λ z. whole (size_of z)) (stands.one_way row (half + col) m b (omega arith)
       (omega (arith, stands.halves)))))
 
-  first_row : (n row : ℕ) → n ≤ 12 → row < half
+  pub first_row : (n row : ℕ) → n ≤ 12 → row < half
       → sum_to n (λ m. sum_to half (λ col. whole (size_of (stored_number s row col m)))) ≤ℚ whole
       (pos (2 ^ 58 + 144))
   first_row n row few b =
@@ -144,7 +144,7 @@ module _ (s : StoredSystem) (half : ℕ) (p : CoupledPair) (kappa40 : ℕ) (c : 
       (row_total 1 half (stored_number s) p.first.matrices stands.first n row b) tame.first.total
       (omega (arith, mul-le n (half * 1) 12 12 few (omega (arith, half_small))))
 
-  coupling_row : (n row : ℕ) → n ≤ 12 → row < half
+  pub coupling_row : (n row : ℕ) → n ≤ 12 → row < half
       → sum_to n (λ m. sum_to half (λ col. whole (size_of (stored_number s (half + row) col m)))) ≤ℚ whole
       (pos (10 * 2 ^ 58 + 432))
   coupling_row n row few b =
@@ -156,7 +156,7 @@ module _ (s : StoredSystem) (half : ℕ) (p : CoupledPair) (kappa40 : ℕ) (c : 
             (omega (arith, half_small)),
       ))
 
-  second_row : (n row : ℕ) → n ≤ 12 → row < half
+  pub second_row : (n row : ℕ) → n ≤ 12 → row < half
       → sum_to n (λ m. sum_to half (λ col. whole (size_of (stored_number s (half + row) (half + col) m)))) ≤ℚ
       whole (pos (2 ^ 58 + 144))
   second_row n row few b =
@@ -184,7 +184,7 @@ module _ (s : StoredSystem) (half : ℕ) (p : CoupledPair) (kappa40 : ℕ) (c : 
       (coupling_row n (row - half) few (omega arith))
       (second_row n (row - half) few (omega arith)) (lit≤ tt)))
 
-  rows_of_pair : RowsAreWithin s (11 * 2 ^ 58 + 576)
+  pub rows_of_pair : RowsAreWithin s (11 * 2 ^ 58 + 576)
   rows_of_pair n row few b = rw stands.halves (at_row n row few (side row half) (rw stands.halves at b))
     where
       side : (i h : ℕ) → (i < h) ⊎ (h ≤ i)

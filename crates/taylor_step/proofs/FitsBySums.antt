@@ -48,7 +48,7 @@ floor_size (pos n) k = omega (arith, quotient_size n k)
 floor_size (negsuc n) k = omega (arith, quotient_size n k)
 
 -- the sizes of the start add up as the list's do
-list_sizes : (l : List ℤ) (d : ℕ) → length l ≡ d
+pub list_sizes : (l : List ℤ) (d : ℕ) → length l ≡ d
     → sum_to d (λ j. whole (size_of (slice_index_or (l ++ pos (2 ^ 64) ∷ []) j (pos 0)))) ≡ whole
     (pos (sum_by unsigned_abs l))
 list_sizes [] zero e = refl

@@ -107,7 +107,7 @@ module _ (s : StoredSystem) (mid : List ℤ) (sys : IsSystem s) (long : length m
     high = λ k i b c. high_at k i c;
   }
 
-  total_is : (n i : ℕ) → i < dim_of s → units (value_to s mid n i) ≡ sum_to (suc n)
+  pub total_is : (n i : ℕ) → i < dim_of s → units (value_to s mid n i) ≡ sum_to (suc n)
       (λ k. units (coefficient s mid k i))
   unfolding value_to
   total_is zero i b = ap units (sym (starts_at i b)) ∙ ring (units (coefficient s mid 0 i) ∷ [])
@@ -120,7 +120,7 @@ module _ (s : StoredSystem) (mid : List ℤ) (sys : IsSystem s) (long : length m
       ∙ ap₂ ◌+ℚ◌ (sym (units_is (value_to s mid n i)) ∙ total_is n i b)
       (sym (units_is (coefficient s mid (suc n) i)))
 
-  pub rounded_value : (degree : ℕ) (value : List ℤ) → length value ≡ length mid
+  abbrev pub rounded_value : (degree : ℕ) (value : List ℤ) → length value ≡ length mid
       → ((i : ℕ) → i < dim_of s → slice_index_or value i (pos 0) ≡ value_to s mid degree i)
       → IsRoundedValue s mid degree value
   rounded_value degree value rows h = record {

@@ -1,4 +1,8 @@
 pub mod Blocks
+pub mod ConstantCells
+pub mod ConstantPairs
+pub mod ConstantRows
+pub mod DegreeLimits
 pub mod Fits
 pub mod FitsByRows
 pub mod FitsBySums
@@ -11,7 +15,9 @@ pub mod SampleSteps
 pub mod Scaled
 pub mod Sizes
 pub mod Sparse
+pub mod Stopping
 pub mod StoredSizes
 pub mod SumForms
+pub mod Tops
 pub mod Turns
 pub mod Windows

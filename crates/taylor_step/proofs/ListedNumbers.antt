@@ -1,12 +1,12 @@
 -- A system that is filled with listed numbers, the last one first.
-use Rattle.std.proofs.Common.{◌≡◌, ℕ, suc, zero, ◌+◌, ◌-◌, ◌<◌, ◌≤◌, ◌^◌, length, get_or, drop, List, [], ◌∷◌}
-use Rattle.std.proofs.Common.{refl, ap, sym, ◌∙◌, arith, Bool, true, false}
+use Rattle.std.proofs.Common.{◌≡◌, ℕ, suc, zero, ◌+◌, ◌-◌, ◌<◌, ◌≤◌, length, get_or, drop, List, [], ◌∷◌}
+use Rattle.std.proofs.Common.{refl, ap, ◌∙◌, arith, Bool, true, false}
 use Rattle.std.proofs.Math.Seq.{drop-cons}
-use Rattle.std.specs.Prelude.{ℤ, pos, unsigned_abs, cond, nat_eq, nat_lt, nat_le, IsTrue, ◌&&◌, ◌||◌}
+use Rattle.std.specs.Prelude.{cond, IsTrue, ◌&&◌}
 use Rattle.std.specs.List.{list_all}
-use Rattle.linear_system.specs.Setting.{IsMadeFor, SetsOnly, HasNoNumbers, is_same_place, may_hold}
-use Rattle.linear_system.specs.StoredSystem.{StoredSystem, dim_of, stored_number}
-use Rattle.taylor_step.specs.ListedNumbers.{Entry, listed, can_hold}
+use Rattle.linear_system.specs.Setting.{IsMadeFor, SetsOnly, HasNoNumbers, is_same_place}
+use Rattle.linear_system.specs.StoredSystem.{StoredSystem, stored_number}
+use Rattle.taylor_step.specs.ListedNumbers.{Entry, listed}
 
 -- a system made for some links has the listed numbers, and else 0
 pub record IsFilledWith (dim degree : ℕ) (links : List (ℕ × ℕ)) (entries : List Entry)

@@ -1,15 +1,17 @@
 -- The promise of a step, from the laws of rounded steps.
-use Rattle.std.specs.Prelude.{◌≡◌, ℕ, suc, pos, ℤ, List, [], ◌∷◌, refl, length, map, take, drop}
-use Rattle.std.specs.Prelude.{slice_index_or, ◌<◌, ◌≤◌, ◌+◌, ◌-◌}
-use Rattle.std.proofs.Common.{ap, sym, ◌∙◌, arith}
+use Rattle.std.specs.Prelude.{◌≡◌, ◌⊎◌, ℕ, zero, suc, pos, ℤ, List, [], ◌∷◌, refl, length}
+use Rattle.std.specs.Prelude.{slice_index_or, unsigned_abs, ◌<◌, ◌≤◌, ◌+◌, ◌-◌, ◌*◌, ◌^◌}
+use Rattle.std.proofs.Common.{ap, sym, ◌∙◌, inl, inr, arith}
+use Rattle.std.proofs.lemmas.Int.{ints}
 use Rattle.std.proofs.lemmas.List.{get_or-map}
 use Rattle.std.proofs.Math.ListN.{length-map}
-use Rattle.frac_laws.specs.Fraction.{Fraction, whole, ◌+ℚ◌, ◌*ℚ◌, ◌-ℚ◌, ◌≤ℚ◌, ◌<ℚ◌}
+use Rattle.frac_laws.specs.Fraction.{Fraction, over, whole, size, ◌+ℚ◌, ◌*ℚ◌, ◌-ℚ◌, ◌≤ℚ◌, ◌<ℚ◌}
 use Rattle.frac_laws.specs.Lists.{Vector, Matrix, number_at}
 use Rattle.frac_laws.specs.Norms.{Norm, Sup, Sum}
-use Rattle.frac_laws.specs.Sums.{sum_to}
-use Rattle.frac_laws.proofs.Linear.{linear, linear_lt, claims, natural, ◌⊞◌, ◌⊠◌, ◌·◌}
-use Rattle.frac_laws.proofs.Order.{le_trans}
+use Rattle.frac_laws.specs.Sums.{power}
+use Rattle.frac_laws.proofs.Linear.{linear, linear_lt, claims, natural, ◌⊞◌, ◌⊠◌}
+use Rattle.frac_laws.proofs.Order.{le_trans, le_of_equal}
+use Rattle.frac_laws.proofs.Quotients.{whole_le, whole_mul}
 use Rattle.cell_laws.specs.Systems.{System}
 use Rattle.cell_laws.specs.Pairs.{CoupledPair}
 use Rattle.cell_laws.specs.Tame.{IsTame, IsTamePair}
@@ -17,19 +19,24 @@ use Rattle.linear_system.specs.StoredSystem.{StoredSystem, IsSystem, dim_of, row
 use Rattle.linear_system.specs.StoredSystem.{stored_free}
 use Rattle.linear_system.specs.StandsFor.{units, StandsFor, StandsForPair, MatricesStandNear}
 use Rattle.linear_system.specs.StandsFor.{VectorsStandNear}
-use Rattle.step_laws.specs.RoundedRuns.{IsRoundedDown}
-use Rattle.step_laws.specs.StandsFor.{MatricesFit, VectorsFit}
+use Rattle.step_laws.specs.RoundedRuns.{window_bound}
+use Rattle.linear_system.specs.DegreeLimit.{greatest_power}
 use Rattle.step_laws.specs.StepLaws.{most_numbers}
 use Rattle.step_laws.specs.StoredSteps.{StoredNumbers, StoredStandFor, StoredStandForPair, IsStoredStep}
-use Rattle.step_laws.specs.StoredSteps.{IsStoredPairStep}
+use Rattle.step_laws.specs.StoredSteps.{StoredMayStop, at_last, after_window}
+use Rattle.taylor_step.specs.Stops.{IsStop, HasSmallBack}
+use Rattle.taylor_step.specs.WholeRun.{coefficient}
+use Rattle.taylor_step.proofs.Stopping.{power_most, least_degree_most}
+use Rattle.taylor_step.proofs.Tops.{none_above_greatest}
+use Rattle.taylor_step.proofs.StoredSizes.{size_units}
 use Rattle.step_laws.specs.StoredSteps.{NumbersStandFor, FreeNumbersStandFor}
 use Rattle.step_laws.proofs.StoredSteps.{stored_steps_stay_within_their_radius}
 use Rattle.step_laws.proofs.StoredPairs.{stored_first_halves_stay_within_their_radius}
 use Rattle.step_laws.proofs.StoredPairs.{stored_second_halves_stay_within_their_radius}
 use Rattle.taylor_step.specs.Enclosures.{in_units, Encloses, EnclosesFirst, EnclosesSecond}
-use Rattle.taylor_step.specs.RoundedRun.{IsRoundedValue, unrounded, left_out}
+use Rattle.taylor_step.specs.RoundedRun.{IsRoundedValue}
 use Rattle.taylor_step.proofs.Fits.{coupling_total}
-use Rattle.taylor_step.proofs.Scaled.{number_beyond, no_units}
+use Rattle.taylor_step.proofs.Scaled.{number_beyond, no_units, unit}
 
 -- the stored numbers as fractions, by power, row and column
 abbrev pub numbers_of : StoredSystem → StoredNumbers
@@ -123,12 +130,28 @@ coupled_by_one kappa40 c p tame = record {
   total_coupling = le_trans (coupling_total kappa40 c p tame) (linear [] (natural 0 1) (hlevel claims) refl);
 }
 
+-- a size of at most 64 * 8^m as a number of units
+small_units : (z : ℤ) (m : ℕ) → unsigned_abs z ≤ 64 * 8 ^ m → size (units z) ≤ℚ window_bound m
+small_units z m h = le_trans (le_of_equal (sym (size_units z)))
+    (times (whole (pos (unsigned_abs z))) (whole (pos (64 * 8 ^ m))) (power (whole (pos 8)) m)
+    (whole_le (omega (arith, ints, h))) (whole_mul (pos 64) (pos (8 ^ m)) ∙ ap (λ t. whole (pos 64) *ℚ t) (eights m)))
+  where
+    eights : (m : ℕ) → whole (pos (8 ^ m)) ≡ power (whole (pos 8)) m
+    eights zero = refl
+    eights (suc m) = (let e : 8 ^ suc m ≡ 8 * 8 ^ m = omega arith in ap (λ n. whole (pos n)) e)
+        ∙ whole_mul (pos 8) (pos (8 ^ m)) ∙ ap (λ t. whole (pos 8) *ℚ t) (eights m)
+
+    times : (x y p : Fraction) → x ≤ℚ y → y ≡ whole (pos 64) *ℚ p → x *ℚ unit ≤ℚ over (pos 64) (2 ^ 64) *ℚ p
+    times x y p h e = linear (x ∷ y ∷ p ∷ []) (natural 1 (2 ^ 64) ⊠ (h ⊞ le_of_equal e)) (hlevel claims) refl
+
 module _ (s : StoredSystem) (old new : List ℤ) (sys : IsSystem s) (long : length old ≡ dim_of s)
-    (value : IsRoundedValue s old 24 new) where
+    (degree : ℕ) (value : IsRoundedValue s old degree new)
+    (stop : IsStop s old degree) (same : (k row : ℕ) → k ≤ degree → row < dim_of s
+    → value.coefficients k row ≡ coefficient s old k row) where
   fits : (l : List ℤ) → length l ≡ dim_of s → length (in_units l) ≤ dim_of s
   fits l e = let m : length (in_units l) ≡ length l = simp length-map refl in omega (arith, m, e)
 
-  stored_step : IsStoredStep (numbers_of s) (in_units old) (in_units new)
+  stored_step : IsStoredStep degree (numbers_of s) (in_units old) (in_units new)
       (λ k row. units (value.coefficients k row))
   stored_step = record {
     mid_fits = fits old long;
@@ -141,20 +164,38 @@ module _ (s : StoredSystem) (old new : List ℤ) (sys : IsSystem s) (long : leng
     total = λ row b. at_units new row (omega (arith, long, value.rows)) ∙ value.total row b;
   }
 
+  stored_stops : StoredMayStop degree (numbers_of s) (λ k row. units (value.coefficients k row))
+  stored_stops = by_stop stop.stops
+    where
+      by_stop : (degree ≡ 24) ⊎ HasSmallBack s old degree
+          → StoredMayStop degree (numbers_of s) (λ k row. units (value.coefficients k row))
+      by_stop (inl e) = at_last e
+      by_stop (inr small) = after_window (greatest_power s) (record {
+        early = let m = least_degree_most (greatest_power s) (power_most s sys) in let l = stop.least in record {
+          least = omega (arith, m.0, l);
+          most = stop.most;
+          above = omega (arith, m.1.0, l);
+        };
+        numbers = λ m row col b c l. ap units (none_above_greatest s sys row col m b (omega (arith, c)) l) ∙ no_units;
+        free = λ m row b l. ap units (none_above_greatest s sys row (dim_of s) m b (omega arith) l) ∙ no_units;
+        window = λ m row b l. rw (same (degree - m) row (omega arith) b)
+            (small_units (coefficient s old (degree - m) row) m (small m row l b));
+      })
+
   encloses : (norm : Norm) (e : System) (kappa40 : ℕ) → dim_of s ≤ most_numbers norm → StandsFor s e
       → IsTame norm kappa40 e
-      → Encloses norm e kappa40 old new 24
+      → Encloses norm e kappa40 old new degree
   encloses norm e kappa40 few stands tame y radius n start b =
-      stored_steps_stay_within_their_radius norm kappa40 radius n (numbers_of s) e y (in_units old)
+      stored_steps_stay_within_their_radius norm kappa40 radius degree n (numbers_of s) e y (in_units old)
       (in_units new)
-      (λ k row. units (value.coefficients k row)) (stands_for s e sys stands) few tame stored_step start b
+      (λ k row. units (value.coefficients k row)) (stands_for s e sys stands) few tame stored_step stored_stops start b
 
   pub encloses_in_sup : (e : System) (kappa40 : ℕ) → StandsFor s e → IsTame Sup kappa40 e
-      → Encloses Sup e kappa40 old new 24
+      → Encloses Sup e kappa40 old new degree
   encloses_in_sup e kappa40 stands tame = encloses Sup e kappa40 sys.dim_small stands tame
 
   pub encloses_in_sum : (e : System) (kappa40 : ℕ) → dim_of s ≤ 12 → StandsFor s e → IsTame Sum kappa40 e
-      → Encloses Sum e kappa40 old new 24
+      → Encloses Sum e kappa40 old new degree
   encloses_in_sum e kappa40 few stands tame = encloses Sum e kappa40 few stands tame
 
   half_small : (half : ℕ) → dim_of s ≡ half + half → half ≤ 12
@@ -162,15 +203,16 @@ module _ (s : StoredSystem) (old new : List ℤ) (sys : IsSystem s) (long : leng
 
   pub encloses_first : (half : ℕ) (p : CoupledPair) (kappa40 : ℕ) (c : Fraction) → StandsForPair s half p
       → IsTamePair kappa40 c p
-      → EnclosesFirst p half kappa40 old new 24
+      → EnclosesFirst p half kappa40 old new degree
   encloses_first half p kappa40 c stands tame w z radius radius2 n starts b =
-      stored_first_halves_stay_within_their_radius kappa40 radius radius2 radius n (whole (pos 1))
+      stored_first_halves_stay_within_their_radius kappa40 radius radius2 radius degree n (whole (pos 1))
       (numbers_of s) half p w z
       (in_units old) (in_units new) (λ k row. units (value.coefficients k row)) (record {
         stands = stands_for_pair s half p sys stands;
         dimension = half_small half stands.halves;
         tame = coupled_by_one kappa40 c p tame;
         step = stored_step;
+        stops = stored_stops;
         first_start = starts.first;
         second_start = starts.second;
         receives = linear (whole (pos radius) ∷ []) (natural 0 1) (hlevel claims) refl;
@@ -178,15 +220,16 @@ module _ (s : StoredSystem) (old new : List ℤ) (sys : IsSystem s) (long : leng
 
   pub encloses_second : (half : ℕ) (p : CoupledPair) (kappa40 : ℕ) (c : Fraction) → StandsForPair s half p
       → IsTamePair kappa40 c p
-      → EnclosesSecond p half kappa40 c old new 24
+      → EnclosesSecond p half kappa40 c old new degree
   encloses_second half p kappa40 c stands tame w z radius radius2 n taken starts b receives =
-      stored_second_halves_stay_within_their_radius kappa40 radius radius2 taken n c (numbers_of s) half p w z
+      stored_second_halves_stay_within_their_radius kappa40 radius radius2 taken degree n c (numbers_of s) half p w z
       (in_units old) (in_units new)
       (λ k row. units (value.coefficients k row)) (record {
         stands = stands_for_pair s half p sys stands;
         dimension = half_small half stands.halves;
         tame = tame;
         step = stored_step;
+        stops = stored_stops;
         first_start = starts.first;
         second_start = starts.second;
         receives = receives;

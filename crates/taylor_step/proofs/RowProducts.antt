@@ -29,7 +29,7 @@ one_term n k f g s before after h =
     (sums_equal k f (λ m. whole (pos 0)) before ∙ sum_to_zero k)
     ∙ ring (f k ∷ []) (hlevel terms) refl)) h)
 
-held_small : (r : _) (dim degree j m : ℕ) → IsRow dim degree r → unsigned_abs (number_in_row r j m) ≤ 2 ^ 59
+pub held_small : (r : _) (dim degree j m : ℕ) → IsRow dim degree r → unsigned_abs (number_in_row r j m) ≤ 2 ^ 59
 held_small r dim degree j m h =
     cases (nat_eq (place_of r.columns j) (length r.columns)) _
     (h.small (m * length r.columns + place_of r.columns j))

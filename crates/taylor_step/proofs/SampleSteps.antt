@@ -1,7 +1,7 @@
 -- Sample systems, stored exactly: what they stand for, and that a step may be taken.
 use Rattle.std.specs.Prelude.{◌≡◌, ℕ, suc, zero, ◌+◌, ◌^◌, ◌<◌, ◌≤◌, ◌&&◌, ℤ, pos, negsuc, List, [], ◌∷◌}
 use Rattle.std.specs.Prelude.{length, cond, refl}
-use Rattle.std.specs.Prelude.{Bool, true, false, not, nat_eq, nat_lt, nat_le, unsigned_abs, sum_by}
+use Rattle.std.specs.Prelude.{Bool, true, false, not, nat_lt, nat_le, unsigned_abs}
 use Rattle.std.specs.Prelude.{slice_index_or}
 use Rattle.std.proofs.Common.{ap, sym, ◌∙◌, arith, subst, lit≤}
 use Rattle.std.specs.List.{list_all}
@@ -21,7 +21,7 @@ use Rattle.linear_system.specs.Setting.{is_same_place}
 use Rattle.linear_system.specs.StandsFor.{units, MatricesStandNear, VectorsStandNear, StandsFor}
 use Rattle.linear_system.specs.StandsFor.{StandsForPair}
 use Rattle.linear_system.specs.StoredSystem.{StoredSystem, dim_of, stored_number, stored_free}
-use Rattle.taylor_step.specs.CanStep.{CanStep, in_sup, in_sum, in_pair, AreAtMost}
+use Rattle.taylor_step.specs.CanStep.{CanStep, in_sup, in_sum, in_pair}
 use Rattle.taylor_step.specs.ListedNumbers.{Entry, listed}
 use Rattle.taylor_step.proofs.Scaled.{no_units}
 

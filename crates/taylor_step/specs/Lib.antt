@@ -2,5 +2,6 @@ pub mod CanStep
 pub mod Enclosures
 pub mod ListedNumbers
 pub mod RoundedRun
+pub mod Stops
 pub mod Strips
 pub mod WholeRun

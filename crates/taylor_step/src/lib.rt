@@ -1,6 +1,8 @@
-//! One cell: the Taylor value of degree 24 of a stored system, on whole numbers in units of 2^-64.
+//! One cell: the Taylor value of a stored system, on whole numbers in units of 2^-64, to the degree from which on
+//! little follows.
 #![tactic(auto)]
 
+mod degree;
 mod run;
 mod steps;
 mod strips;

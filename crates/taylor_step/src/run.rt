@@ -1,4 +1,4 @@
-// The run of 24 powers on whole numbers.
+//! The run on whole numbers, power by power.
 
 ghost use Rattle.std.specs.Prelude.{◌≡◌, ℕ, ◌^◌, ◌+◌, ◌-◌, ◌*◌, ◌<◌, ◌≤◌, ◌+ℤ◌, pos, length, take, drop};
 ghost use Rattle.std.specs.Prelude.{unsigned_abs, slice_index_or};
@@ -7,7 +7,9 @@ ghost use Rattle.fixed_num.specs.Products.{sum_of_products, sum_of_sizes};
 ghost use Rattle.linear_system.specs.StoredSystem.{row_of, dim_of};
 ghost use Rattle.taylor_step.specs.WholeRun.{ProductsFit, value_to};
 ghost use Rattle.taylor_step.specs.Strips.{contents, window, HasRoom};
+ghost use Rattle.taylor_step.specs.Stops.{IsStop};
 
+use crate::degree::{greatest_size, may_stop, top_power};
 use crate::strips::{begin, write_blocks};
 use fixed_num::dot;
 use linear_system::CellSystem;
@@ -58,21 +60,34 @@ fn add_all(newest: &[i128], sums: &mut [i128])
     }
 }
 
-/// Replaces the start by the sum of the coefficients up to power 24.
-pub(crate) fn run(sys: &CellSystem, mid: &mut [i128], newest: &mut [i128], strips: &mut [Vec<i128>])
+/// Replaces the start by the sum of the coefficients up to the degree at which the run stops.
+pub(crate) fn run(
+    sys: &CellSystem,
+    mid: &mut [i128],
+    newest: &mut [i128],
+    strips: &mut [Vec<i128>],
+) -> u8
     requires mid { length mid.old ≡ dim_of sys.now }
     requires newest { length newest.old ≡ dim_of sys.now + 1 }
     requires room { HasRoom sys.now (contents strips.old) }
     requires fit { ProductsFit sys.now mid.old }
     ensures room { HasRoom sys.now (contents strips.new) }
     ensures sums { (row : ℕ) → row < dim_of sys.now
-        → slice_index_or mid.new row (pos 0) ≡ value_to sys.now mid.old 24 row }
+        → slice_index_or mid.new row (pos 0) ≡ value_to sys.now mid.old result row }
+    ensures stop { IsStop sys.now mid.old result }
 {
     let _degree = sys.degree();
+    let top = top_power(sys);
+    let mut sizes = [0; 25];
     begin(sys, mid, newest, strips);
     for k in 0..24 {
         new_numbers(sys, k, strips, newest);
         add_all(newest, mid);
+        sizes[k + 1] = greatest_size(newest);
+        if may_stop(&sizes, k + 1, top) {
+            return k as u8 + 1;
+        }
         write_blocks(sys, 23 - k, newest, strips);
     }
+    24
 }

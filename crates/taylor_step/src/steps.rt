@@ -1,4 +1,4 @@
-// The count of steps.
+//! The count of steps.
 
 ghost use Rattle.std.specs.Prelude.{◌≡◌, ◌+◌, ◌<◌};
 

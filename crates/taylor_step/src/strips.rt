@@ -1,4 +1,4 @@
-// The history of each row: a strip of blocks, one for each power, the newest block first.
+//! The history of each row: a strip of blocks, one for each power, the newest block first.
 
 ghost use Rattle.std.specs.Prelude.{◌≡◌, ℕ, ◌+◌, ◌*◌, ◌<◌, ◌≤◌, pos, length, map, slice_index};
 ghost use Rattle.std.specs.Prelude.{slice_index_or};

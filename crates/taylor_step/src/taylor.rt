@@ -1,14 +1,15 @@
-// One step.
+//! One step.
 
-ghost use Rattle.std.specs.Prelude.{◌≡◌, ◌^◌, ◌+◌, ◌<◌, ◌≤◌, ℕ, length};
+ghost use Rattle.std.specs.Prelude.{◌≡◌, ◌^◌, ◌+◌, ◌<◌, ◌≤◌, ℕ, length, sum_by, unsigned_abs};
 ghost use Rattle.frac_laws.specs.Fraction.{Fraction};
 ghost use Rattle.frac_laws.specs.Norms.{Sup, Sum};
 ghost use Rattle.cell_laws.specs.Pairs.{CoupledPair};
 ghost use Rattle.cell_laws.specs.Systems.{System};
 ghost use Rattle.cell_laws.specs.Tame.{IsTame, IsTamePair};
+ghost use Rattle.linear_system.specs.DegreeLimit.{degree_limit, IsConstant};
 ghost use Rattle.linear_system.specs.StandsFor.{StandsFor, StandsForPair};
 ghost use Rattle.linear_system.specs.StoredSystem.{dim_of};
-ghost use Rattle.taylor_step.specs.CanStep.{CanStep};
+ghost use Rattle.taylor_step.specs.CanStep.{CanStep, AreAtMost};
 ghost use Rattle.taylor_step.specs.Enclosures.{Encloses, EnclosesFirst, EnclosesSecond};
 ghost use Rattle.taylor_step.specs.RoundedRun.{IsRoundedValue};
 
@@ -18,11 +19,10 @@ use crate::work::Work;
 use linear_system::CellSystem;
 use std::sync::ledger::Ledger;
 
-const DEGREE: u8 = 24;
-
 /// Goes over one cell: `mid`, in units of 2^-64, becomes the sum of its Taylor coefficients up to the answered
 /// degree, each of them rounded down once. It then encloses the Taylor values of every start that it enclosed
-/// before, within `grow` of the radius. Takes no memory and refuses nothing.
+/// before, within `grow` of the radius. The degree is the first one at which the coefficients are small for as many
+/// powers back as numbers are stored, so that little follows. Takes no memory and refuses nothing.
 pub fn step<L: Ledger>(
     sys: &CellSystem,
     mid: &mut [i128],
@@ -33,10 +33,21 @@ pub fn step<L: Ledger>(
     requires work { work.old ≡ dim_of sys.now }
     requires can { CanStep sys.now mid.old }
     requires count { steps.old + 1 < 2 ^ 63 }
-    ensures degree { result ≡ 24 }
+    ensures least { 8 ≤ result }
+    ensures most { result ≤ 24 }
+    ensures limit { result ≤ degree_limit sys.now mid.old }
     ensures count { steps.new ≡ steps.old + 1 }
     ensures work { work.new ≡ work.old }
     ensures rounded { IsRoundedValue sys.now mid.old result mid.new }
+
+    // Where rates and payments are constant over the cell.
+    ensures constant_in_sup { (e : System) (kappa40 : ℕ) → IsConstant sys.now → StandsFor sys.now e
+        → IsTame Sup kappa40 e → AreAtMost (2 ^ 65) mid.old → result ≡ 8 }
+    ensures constant_in_sum { (e : System) (kappa40 : ℕ) → IsConstant sys.now → dim_of sys.now ≤ 12
+        → StandsFor sys.now e → IsTame Sum kappa40 e → sum_by unsigned_abs mid.old ≤ 2 ^ 66 → result ≡ 8 }
+    ensures constant_pair { (half : ℕ) (p : CoupledPair) (kappa40 : ℕ) (c : Fraction) → IsConstant sys.now
+        → StandsForPair sys.now half p → IsTamePair kappa40 c p → AreAtMost (2 ^ 64 + 2 ^ 45) mid.old
+        → result ≤ 9 }
 
     // Whatever tame system or pair it is that the stored numbers stand for.
     ensures sup { (e : System) (kappa40 : ℕ) → StandsFor sys.now e → IsTame Sup kappa40 e
@@ -52,6 +63,5 @@ pub fn step<L: Ledger>(
 {
     let _degree = sys.degree();
     steps.tick();
-    run(sys, mid, &mut work.newest, &mut work.strips);
-    DEGREE
+    run(sys, mid, &mut work.newest, &mut work.strips)
 }

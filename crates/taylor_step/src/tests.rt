@@ -84,7 +84,7 @@ fn nothing_changes_without_numbers(rt: HostRuntime) -> Result<(), AllocError> {
     let system = filled(rt.alloc(), 1, 0, &[], &[])?;
     let mut work = Work::new(rt.alloc(), 1)?;
     let mut mid = [18446744073709551616];
-    assert_eq!(rt; one_step(&system, &mut mid, &mut work), 24);
+    assert_eq!(rt; one_step(&system, &mut mid, &mut work), 8);
     assert_eq!(rt; mid, [18446744073709551616]);
     Ok(())
 }
@@ -109,7 +109,7 @@ fn two_states_backward(rt: HostRuntime) -> Result<(), AllocError> {
     let system = filled(rt.alloc(), 2, 1, &[(0, 1), (1, 0)], &entries)?;
     let mut work = Work::new(rt.alloc(), 2)?;
     let mut mid = [18446744073709551616, -9223372036854775808];
-    assert_eq!(rt; one_step(&system, &mut mid, &mut work), 24);
+    assert_eq!(rt; one_step(&system, &mut mid, &mut work), 9);
     assert!(rt; mid[0].abs_diff(18683952468283662061) <= RADIUS);
     assert!(rt; mid[1].abs_diff(-9313686001084591385) <= RADIUS);
     Ok(())
@@ -133,7 +133,7 @@ fn two_states_forward_with_free_numbers(rt: HostRuntime) -> Result<(), AllocErro
     let system = filled(rt.alloc(), 2, 1, &[(0, 1), (1, 0)], &entries)?;
     let mut work = Work::new(rt.alloc(), 2)?;
     let mut mid = [13835058055282163712, 4611686018427387904];
-    assert_eq!(rt; one_step(&system, &mut mid, &mut work), 24);
+    assert_eq!(rt; one_step(&system, &mut mid, &mut work), 10);
     assert!(rt; mid[0].abs_diff(14060943434799570842) <= RADIUS);
     assert!(rt; mid[1].abs_diff(4538923026240577638) <= RADIUS);
     Ok(())
@@ -173,7 +173,7 @@ fn a_pair_with_a_coupling(rt: HostRuntime) -> Result<(), AllocError> {
         4611686018427387904,
         9223372036854775808,
     ];
-    assert_eq!(rt; one_step(&system, &mut mid, &mut work), 24);
+    assert_eq!(rt; one_step(&system, &mut mid, &mut work), 9);
     assert!(rt; mid[0].abs_diff(18683952468283662061) <= RADIUS);
     assert!(rt; mid[1].abs_diff(-9313686001084591385) <= RADIUS);
     assert!(rt; mid[2].abs_diff(4803578701627053298) <= RADIUS);

@@ -1,4 +1,4 @@
-// The memory of a step.
+//! The memory of a step.
 
 ghost use Rattle.std.specs.Prelude.{◌≡◌, ◌≤◌, IfOk, length};
 

@@ -105,7 +105,7 @@ fn each_end_writes_its_text(rt: HostRuntime) -> Result<(), Fail> {
             "flat",
             End::Done,
             0,
-            "report value flat\ndegree 24 scale 10\n0 on value 383.999999 384.000001 0.000003\nend 1\n",
+            "report value flat\ndegree 8 scale 10\n0 on value 383.999999 384.000001 0.000003\nend 1\n",
         ),
         (
             "value",

@@ -1,4 +1,4 @@
-ghost use Rattle.std.specs.Prelude.{◌≡◌, ◌^◌, ◌<◌, ◌≤◌, unsigned_abs, IsTrue};
+ghost use Rattle.std.specs.Prelude.{◌^◌, ◌<◌, ◌≤◌, unsigned_abs, IsTrue};
 ghost use Rattle.linear_system.specs.Setting.{IsMadeFor, may_hold};
 
 use super::*;

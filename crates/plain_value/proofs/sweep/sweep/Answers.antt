@@ -5,12 +5,13 @@ use Rattle.plain_laws.specs.PlainRun.{cells_of}
 use Rattle.plain_laws.specs.PlainSystem.{plain_system}
 use Rattle.plain_laws.proofs.PlainTame.{plain_system_tame}
 use Rattle.plain_laws.proofs.PlainMidpoints.{midpoint_at_term}
-use Rattle.plain_value.proofs.PlainSteps.{can_step, stepped, swept_most}
+use Rattle.plain_value.proofs.PlainSteps.{can_step, stepped, swept_at_most, swept_most}
 use Rattle.plain_laws.proofs.LedgerSizes.{rate_within_scale}
 use Rattle.plain_value.proofs.sweep.sweep.Goals as goal
 
 pub loop-cell-init : goal.loop-cell-init
 loop-cell-init g c = record {
+  degree = refl;
   one = search rules;
   work = search rules;
   count = search rules;
@@ -44,14 +45,19 @@ loop-cell-preserved g c =
     let tame = plain_system_tame p (scale p) (kappa40 p) c.requires.ranges
     (rate_within_scale p c.requires.ranges) in
     let promise = c.step.ensures.sup (plain_system p (scale p)) (kappa40 p) c.requires.system tame in
+    let least : c.step.result ≡ 8 =
+    c.step.ensures.constant_in_sup (plain_system p (scale p)) (kappa40 p) c.requires.constant c.requires.system tame
+    (swept_at_most p (scale p) c.loop-cell._cell c.loop-cell.mid c.requires.ranges refl
+    (omega (arith, c.loop-cell-test.true)) c.loop-cell.invariant.one c.loop-cell.invariant.held) in
     let one = c.step.auto.mid ∙ c.loop-cell.invariant.one in
     record {
+      degree = rw (c.max-degree.ensures, c.loop-cell.invariant.degree, least) refl;
       one = one;
       work = c.step.ensures.work ∙ c.loop-cell.invariant.work;
       count = omega (arith, c.loop-cell.invariant.count, c.step.ensures.count);
       held = stepped p (scale p) c.loop-cell._cell _ c.step.result c.loop-cell.mid c.step.new.mid
           c.requires.ranges refl
-          c.loop-cell-test.true (omega arith) c.step.ensures.degree c.loop-cell.invariant.one one promise
+          c.loop-cell-test.true (omega arith) least c.loop-cell.invariant.one one promise
           c.loop-cell.invariant.held;
     }
 

@@ -8,6 +8,7 @@ abbrev pub invariant-loop-cell : goal.invariant-loop-cell
 invariant-loop-cell g l =
     let p = plain_product_of l.fn.plain in
     record {
+      degree : l.degree ≡ 8;
       one : length l.mid ≡ 1;
       work : l.work ≡ 1;
       count : l.steps ≤ 2 ^ 62 + l._cell;

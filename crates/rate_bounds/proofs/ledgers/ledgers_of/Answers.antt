@@ -7,7 +7,7 @@ use Rattle.rate_bounds.proofs.ledgers.ledgers_of.Goals as goal
 
 pub returns : goal.returns
 returns c =
-    let scale_is : c.plan_scale.result ≡ scale c.args.p.now (payment_plan c.args.p.now) =
+    let scale_is : c.plan_scale.result ≡ scale c.args.product.now (payment_plan c.args.product.now) =
     c.plan_scale.ensures.value ∙ ap scale_of_bound c.requires.bound in
     record {
       months = c.requires.table;
@@ -17,7 +17,7 @@ returns c =
       pattern_scale = c.pattern_bound-pattern.ensures.scale;
       backward = c.in_ok-radii.ensures;
       second = c.in_ok-seconds.ensures
-          ∙ ap (λ g. list_of (suc c.args.p.now.months)
-          (second_before_term c.args.p.now (payment_plan c.args.p.now) (2 ^ g))) scale_is;
+          ∙ ap (λ g. list_of (suc c.args.product.now.months)
+          (second_before_term c.args.product.now (payment_plan c.args.product.now) (2 ^ g))) scale_is;
       forward = c.in_ok-forwards.ensures;
     }

@@ -9,17 +9,17 @@ loop-exit-init c = refl
 
 pub exit_pay-sum-requires-clause-fits : goal.exit_pay-sum-requires-clause-fits
 exit_pay-sum-requires-clause-fits c =
-    one_exit_fits c.args.p.now (plan_named c.args.which c.args.p.now) c.args.month c.args.exits.now
+    one_exit_fits c.args.product.now (plan_named c.args.which c.args.product.now) c.args.month c.args.exits.now
     c.loop-exit.exit-index _ c.loop-exit-test.true c.requires.fits
 
 pub overflow_add-sum : goal.overflow_add-sum
 overflow_add-sum c =
     let fits : c.loop-exit.sum + c.exit_pay-sum.result < 2 ^ 127 =
-    exits_pay_fits c.args.p.now (plan_named c.args.which c.args.p.now) c.args.month c.args.exits.now
+    exits_pay_fits c.args.product.now (plan_named c.args.which c.args.product.now) c.args.month c.args.exits.now
     c.loop-exit.exit-index _ _ _ c.loop-exit-test.true c.loop-exit.invariant c.exit_pay-sum.ensures c.requires.fits in
     omega arith
 
 pub loop-exit-preserved : goal.loop-exit-preserved
 loop-exit-preserved c =
-    exits_pay_step c.args.p.now (plan_named c.args.which c.args.p.now) c.args.month c.args.exits.now
+    exits_pay_step c.args.product.now (plan_named c.args.which c.args.product.now) c.args.month c.args.exits.now
     c.loop-exit.exit-index _ _ _ c.loop-exit-test.true c.loop-exit.invariant c.exit_pay-sum.ensures

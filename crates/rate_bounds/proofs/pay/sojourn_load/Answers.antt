@@ -18,4 +18,4 @@ returns-clause-value c =
     ∙ ap (λ p. load (sojourn_at (plan_of c.args.which p) c.args.state c.args.month) c.args.month)
     c.plan.ensures.payments
     ∙ ap (λ plan. load (sojourn_at plan c.args.state c.args.month) c.args.month)
-    (plan_is c.args.which c.args.p.now))
+    (plan_is c.args.which c.args.product.now))

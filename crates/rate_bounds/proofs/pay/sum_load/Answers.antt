@@ -18,4 +18,4 @@ returns-clause-value c =
     ∙ ap (λ p. load (sum_at (plan_of c.args.which p) c.args.transition c.args.month) c.args.month)
     c.plan.ensures.payments
     ∙ ap (λ plan. load (sum_at plan c.args.transition c.args.month) c.args.month)
-    (plan_is c.args.which c.args.p.now))
+    (plan_is c.args.which c.args.product.now))

@@ -5,4 +5,4 @@ use Rattle.rate_bounds.proofs.plan_bound.bound1024.Given as goal
 
 -- the ledger some months before the term
 abbrev pub invariant-loop-back : goal.invariant-loop-back
-invariant-loop-back l = l.bound ≡ bound_before_term l.p (plan_named l.which l.p) l.back
+invariant-loop-back l = l.bound ≡ bound_before_term l.product (plan_named l.which l.product) l.back

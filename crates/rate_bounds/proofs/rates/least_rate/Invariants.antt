@@ -5,4 +5,4 @@ use Rattle.rate_bounds.proofs.rates.least_rate.Given as goal
 
 -- the least number of the transitions so far
 abbrev pub invariant-loop-transition : goal.invariant-loop-transition
-invariant-loop-transition l = l.lowest ≡ least_whole (list_of l.transition (least_of l.p l.month))
+invariant-loop-transition l = l.lowest ≡ least_whole (list_of l.transition (least_of l.product l.month))

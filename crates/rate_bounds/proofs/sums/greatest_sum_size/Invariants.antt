@@ -7,6 +7,6 @@ use Rattle.rate_bounds.proofs.sums.greatest_sum_size.Given as goal
 -- the greatest size of the sums so far
 abbrev pub invariant-loop-transition : goal.invariant-loop-transition
 invariant-loop-transition l = record {
-  greatest : l.most ≡ greatest_natural (list_of l.transition (sum_size_of l.p (payment_plan l.p)));
+  greatest : l.most ≡ greatest_natural (list_of l.transition (sum_size_of l.product (payment_plan l.product)));
   small : l.most ≤ 9 * 10 ^ 12;
 }

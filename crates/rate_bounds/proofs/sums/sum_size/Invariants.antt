@@ -7,6 +7,6 @@ use Rattle.rate_bounds.proofs.sums.sum_size.Given as goal
 -- the greatest load of the months so far
 abbrev pub invariant-loop-month : goal.invariant-loop-month
 invariant-loop-month l = record {
-  greatest : l.most ≡ greatest_natural (list_of l.month (λ m. sum_load (payment_plan l.p) m l.transition));
+  greatest : l.most ≡ greatest_natural (list_of l.month (λ m. sum_load (payment_plan l.product) m l.transition));
   small : l.most ≤ 9 * 10 ^ 12;
 }

@@ -11,7 +11,7 @@ month_bernstein-requires c =
     let bounded : IsBounded c.in_years.result.c (c.args.month - c.at-piece.result.now.from + 1) =
     rw c.in_years.ensures c.at-piece.ensures.bounded in
     let fits = month_fits c.in_years.result.c (c.args.month - c.at-piece.result.now.from) six bounded in
-    fits
+    omega (arith, fits)
 
 pub returns-clause-numerators : goal.returns-clause-numerators
 returns-clause-numerators c =

@@ -1,0 +1,9 @@
+pub mod CellConstants
+pub mod LinkBounds
+pub mod PairTame
+pub mod PaymentBounds
+pub mod SecondBounds
+pub mod SmallCellsTame
+pub mod TableNorms
+pub mod TameLinks
+pub mod TameSystems

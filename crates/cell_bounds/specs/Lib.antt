@@ -1,0 +1,3 @@
+pub mod CellBounds
+pub mod ScaledSystems
+pub mod SmallCellLaws

@@ -1,0 +1,3 @@
+pub mod CellGrowth
+pub mod SecondGrowth
+pub mod SmallCellGrowth

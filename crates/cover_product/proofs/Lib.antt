@@ -1,0 +1,4 @@
+pub mod CoverNorms
+pub mod CoverRules
+pub mod DecidedParts
+pub mod DecidedRules

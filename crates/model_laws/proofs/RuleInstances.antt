@@ -1,0 +1,137 @@
+-- The rules hold of a lump, and an annuity is plain.
+use Rattle.std.specs.Prelude.{◌≡◌, ℕ, zero, suc, ◌<◌, ◌≤◌, ◌^◌, pos, unsigned_abs, All, [], ◌∷◌, length, refl}
+use Rattle.std.specs.Prelude.{slice_index, codes}
+use Rattle.std.specs.List.{AllPass}
+use Rattle.std.proofs.Common.{ap, arith, lit≤, lit<}
+use Rattle.std.proofs.lemmas.Int.{ints}
+use Rattle.model_specs.specs.Names.{IsGoodName, is_name_byte}
+use Rattle.model_specs.specs.RecordRules.{AreDistinct, IsBounded, IsBoundedCurve}
+use Rattle.model_laws.specs.Examples.{constant_curve}
+use Rattle.model_laws.specs.RuleInstances.{LumpIsAdmissible, AnnuityIsPlain}
+use Rattle.model_laws.proofs.FlatRuns.{piece-constant, step-constant}
+
+-- facts of lists of one member, and of none
+only : {A : Type 0} (P : A → Type 0) (x : A) → P x → All P (x ∷ [])
+only P x holds zero d b = holds
+only P x holds (suc k) d b = absurd (omega arith)
+
+none : {A : Type 0} (P : A → Type 0) → All P []
+none P k d b = absurd (omega arith)
+
+alone : {A : Type 0} (bare x : A) → AreDistinct bare (x ∷ [])
+alone bare x i j low within = absurd (omega arith)
+
+absent : {A : Type 0} (bare : A) → AreDistinct bare []
+absent bare i j low within = absurd (omega arith)
+
+twentieth-bounded : IsBounded (pos 1 ∷ pos 0 ∷ pos 0 ∷ pos 0 ∷ pos 0 ∷ pos 0 ∷ []) 12
+twentieth-bounded zero b = lit≤ tt
+twentieth-bounded (suc zero) b = lit≤ tt
+twentieth-bounded (suc (suc zero)) b = lit≤ tt
+twentieth-bounded (suc (suc (suc zero))) b = lit≤ tt
+twentieth-bounded (suc (suc (suc (suc zero)))) b = lit≤ tt
+twentieth-bounded (suc (suc (suc (suc (suc zero))))) b = lit≤ tt
+twentieth-bounded (suc (suc (suc (suc (suc (suc i)))))) b = absurd (omega arith)
+
+on-is-good : IsGoodName 24 (codes "on")
+on-is-good = record { not_empty = lit< tt; short = lit≤ tt; bytes = bytes }
+  where
+    bytes : AllPass is_name_byte (codes "on")
+    bytes zero d b = refl
+    bytes (suc zero) d b = refl
+    bytes (suc (suc k)) d b = absurd (omega arith)
+
+example-is-good : IsGoodName 40 (codes "example")
+example-is-good = record { not_empty = lit< tt; short = lit≤ tt; bytes = bytes }
+  where
+    bytes : AllPass is_name_byte (codes "example")
+    bytes zero d b = refl
+    bytes (suc zero) d b = refl
+    bytes (suc (suc zero)) d b = refl
+    bytes (suc (suc (suc zero))) d b = refl
+    bytes (suc (suc (suc (suc zero)))) d b = refl
+    bytes (suc (suc (suc (suc (suc zero))))) d b = refl
+    bytes (suc (suc (suc (suc (suc (suc zero)))))) d b = refl
+    bytes (suc (suc (suc (suc (suc (suc (suc k))))))) d b = absurd (omega arith)
+
+pub lump_is_admissible : LumpIsAdmissible
+lump_is_admissible = record {
+  well_formed = record {
+    names = record {
+      name = example-is-good;
+      some_state = lit≤ tt;
+      at_most_twelve = lit≤ tt;
+      states = only (IsGoodName 24) (codes "on") on-is-good;
+      distinct = alone [] (codes "on");
+    };
+    head = record {
+      some_month = lit≤ tt;
+      at_most_a_century = lit≤ tt;
+      some_denominator = lit≤ tt;
+      largest_denominator = lit≤ tt;
+      start = lit< tt;
+    };
+    transitions = record {
+      from = none _;
+      to = none _;
+      different = none _;
+      distinct = λ i j low within. absurd (omega arith);
+    };
+    curves = record {
+      interest = record {
+        six = only (λ piece. length piece.c ≡ 6) _ refl;
+        starts = record {
+          some = lit≤ tt;
+          first = refl;
+          rising = λ k b. absurd (omega arith);
+          below = below;
+        };
+      };
+      rates = none _;
+      bounded_interest = bounded;
+      bounded_rates = none _;
+    };
+    payments = record {
+      states = none _;
+      distinct = absent 0;
+      sojourns = none _;
+      sums = none _;
+      bounded_sojourns = none _;
+      bounded_sums = none _;
+    };
+    lumps = record {
+      dates = only (λ l. l.month ≤ 12) _ (lit≤ tt);
+      states = only (λ l. l.state < 1) _ (lit< tt);
+      amounts = only (λ l. unsigned_abs l.amount ≤ 10 ^ 12) _ (lit≤ tt);
+      distinct = λ i j low within. absurd (omega arith);
+    };
+    pattern = record {
+      payers = none _;
+      distinct = absent 0;
+      until_above_0 = λ b. absurd (omega arith);
+      until_within = lit≤ tt;
+      every = lit≤ tt;
+      never_until = λ e. refl;
+      never_every = λ e. refl;
+    };
+  };
+  valuation = refl;
+}
+  where
+    below : (k : ℕ) → k < 1 → slice_index (0 ∷ []) k < 12
+    below zero b = lit< tt
+    below (suc k) b = absurd (omega arith)
+
+    bounded : IsBoundedCurve 12 (constant_curve (pos 1))
+    bounded zero b = twentieth-bounded
+    bounded (suc k) b = absurd (omega arith)
+
+pub annuity_is_plain : AnnuityIsPlain
+annuity_is_plain = record {
+  one_state = refl;
+  no_lump = refl;
+  interest = λ m b. ap (λ piece. piece.c) (piece-constant (pos 0) m);
+  force_from_0 = omega (arith, ints);
+  force_to_a_quarter = omega (arith, ints);
+  sojourn = λ m b. ap (λ step. step.c) (step-constant 12 m (pos 384) []);
+}

@@ -1,0 +1,10 @@
+pub mod EntryLaws
+pub mod Equations
+pub mod Examples
+pub mod FlatLaws
+pub mod LedgerInstances
+pub mod MomentLaws
+pub mod NumberLaws
+pub mod RuleInstances
+pub mod RunInstances
+pub mod ShapeLaws

@@ -1,5 +1,0 @@
-use Rattle.model_specs.proofs.CellEntries.{systems_have_entries}
-use Rattle.model_specs.proofs.entry_laws.systems_have_entries.Goals as goal
-
-pub returns : goal.returns
-returns c = systems_have_entries

@@ -1,5 +1,0 @@
-use Rattle.model_specs.proofs.CellEntries.{transitions_are_found}
-use Rattle.model_specs.proofs.entry_laws.transitions_are_found.Goals as goal
-
-pub returns : goal.returns
-returns c = transitions_are_found

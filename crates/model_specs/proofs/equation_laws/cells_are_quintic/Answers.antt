@@ -1,5 +1,0 @@
-use Rattle.model_specs.proofs.CellShapes.{cells_are_quintic}
-use Rattle.model_specs.proofs.equation_laws.cells_are_quintic.Goals as goal
-
-pub returns : goal.returns
-returns c = cells_are_quintic

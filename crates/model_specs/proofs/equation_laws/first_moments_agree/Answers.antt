@@ -1,5 +1,0 @@
-use Rattle.model_specs.proofs.Moments.{first_moments_agree}
-use Rattle.model_specs.proofs.equation_laws.first_moments_agree.Goals as goal
-
-pub returns : goal.returns
-returns c = first_moments_agree

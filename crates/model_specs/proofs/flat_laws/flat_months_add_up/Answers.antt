@@ -1,5 +1,0 @@
-use Rattle.model_specs.proofs.FlatRuns.{flat_months_add_up}
-use Rattle.model_specs.proofs.flat_laws.flat_months_add_up.Goals as goal
-
-pub returns : goal.returns
-returns c = flat_months_add_up

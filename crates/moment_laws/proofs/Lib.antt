@@ -1,0 +1,7 @@
+pub mod LumpSizes
+pub mod MonthCells
+pub mod ReserveLedger
+pub mod ScaledRuns
+pub mod SecondMoments
+pub mod LedgerSteps
+pub mod RunsFrom

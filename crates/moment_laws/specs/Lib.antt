@@ -1,0 +1,4 @@
+pub mod CellRuns
+pub mod MomentLaws
+pub mod SecondMomentLaws
+pub mod RunsFrom

@@ -1,0 +1,4 @@
+pub mod ForwardCells
+pub mod HalfSquare
+pub mod LateCoefficients
+pub mod ProbabilityRuns

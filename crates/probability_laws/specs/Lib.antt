@@ -1,0 +1,2 @@
+pub mod ProbabilityLaws
+pub mod ProbabilitiesFrom

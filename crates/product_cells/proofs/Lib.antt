@@ -1,0 +1,8 @@
+pub mod CurveCells
+pub mod FoundTransitions
+pub mod PlanSteps
+pub mod ProductCells
+pub mod ProductCurves
+pub mod ProductPayments
+pub mod ScaleRoom
+pub mod CellsWithin

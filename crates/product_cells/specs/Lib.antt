@@ -1,0 +1,3 @@
+pub mod EachCell
+pub mod MonthFractions
+pub mod SmallCells

@@ -1,0 +1,10 @@
+pub mod FurtherMoments
+pub mod FurtherNumbers
+pub mod FurtherProbabilities
+pub mod FurtherReserves
+pub mod LedgerRows
+pub mod RuleLimits
+pub mod FlatRooms
+pub mod FlatRows
+pub mod FlatStates
+pub mod LateStart

@@ -1,0 +1,3 @@
+pub mod FittingNumbers
+pub mod TameCells
+pub mod SparseCells

@@ -1,0 +1,3 @@
+pub mod PairSweeps
+pub mod ScaledSteps
+pub mod Sweeps

@@ -1,0 +1,3 @@
+pub mod PairSweepLaws
+pub mod ScaledSteps
+pub mod SweepLaws
