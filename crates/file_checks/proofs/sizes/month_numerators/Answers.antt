@@ -14,7 +14,7 @@ month_bernstein-requires c =
     (padded_bounded c.args.c.now (c.args.month + 1)
     (bounded_from_test c.args.c.now (c.args.month + 1) c.args.months (omega arith) c.requires.bounded)) in
     let fits = month_fits c.in_years.result.c c.args.month six bounded in
-    fits
+    omega (arith, fits)
 
 pub returns : goal.returns
 returns c =
