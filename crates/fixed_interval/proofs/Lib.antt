@@ -1,0 +1,5 @@
+pub mod Enclosing
+pub mod Ends
+pub mod Midpoints
+pub mod PrintedEnds
+pub mod TwoFloors

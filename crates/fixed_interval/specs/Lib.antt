@@ -1,0 +1,5 @@
+pub mod Halves
+pub mod Intervals
+pub mod Printing
+pub mod Products
+pub mod Tables

@@ -1,0 +1,15 @@
+//! Intervals of numbers in units of 2^-64, whose calls enclose every exact result, and tables of printed ends.
+#![tactic(auto)]
+
+mod around;
+mod interval;
+mod printed;
+mod products;
+mod tables;
+
+pub use interval::Interval;
+pub use printed::Printed;
+pub use tables::{Table, Valued};
+
+#[cfg(test)]
+mod tests;

@@ -1,0 +1,91 @@
+// Expected values are from exact whole-number arithmetic outside the program.
+
+ghost use Rattle.std.specs.Prelude.{◌≡◌, ◌≤ℤ◌};
+
+use super::*;
+
+const ONE: i128 = 1 << 64;
+
+// The greatest end of a product.
+const FACTOR: i128 = 1 << 66;
+
+// The greatest end that is printed.
+const END: i128 = 1 << 123;
+
+fn of(lo: i128, hi: i128) -> Interval
+    requires { lo ≤ℤ hi }
+    ensures lo { result.lo ≡ lo }
+    ensures hi { result.hi ≡ hi }
+{
+    Interval { lo, hi }
+}
+
+#[test]
+fn ends_stand_around_a_midpoint(rt: HostRuntime) {
+    let cases = [
+        (Interval::around(5, 2, 3), (24, 56)),
+        (Interval::around(7, 9, 1), (-4, 32)),
+        (
+            Interval::around(-(1 << 65), 1 << 45, 56),
+            (
+                -2_658_458_526_871_032_202_266_417_113_967_099_904,
+                -2_658_453_456_268_631_289_348_811_127_154_278_400,
+            ),
+        ),
+    ];
+    for (found, wanted) in cases {
+        assert_eq!(rt; (found.lo, found.hi), wanted);
+    }
+}
+
+#[test]
+fn products_are_rounded_outward_once(rt: HostRuntime) {
+    let third = ONE / 3;
+    let cases = [
+        (of(1, 3).mul(&of(-1, 1)), (-1, 1)),
+        (of(-ONE - 1, 1 - ONE).mul(&of(3, 3)), (-4, -2)),
+        (
+            of(third, third).mul(&of(third, third)),
+            (2_049_638_230_412_172_401, 2_049_638_230_412_172_402),
+        ),
+        (
+            of(-FACTOR, 27_670_116_110_564_327_424).mul(&of(-6_148_914_691_236_517_206, FACTOR)),
+            (-295_147_905_179_352_825_856, 110_680_464_442_257_309_696),
+        ),
+    ];
+    for (found, wanted) in cases {
+        assert_eq!(rt; (found.lo, found.hi), wanted);
+    }
+}
+
+#[test]
+fn sums_and_meetings_are_exact(rt: HostRuntime) {
+    assert_eq!(rt; of(-1, 3).add(&of(2, 5)), of(1, 8));
+    assert_eq!(rt; of(1, 3).meet(&of(2, 5)), Some(of(2, 3)));
+    assert_eq!(rt; of(1, 3).meet(&of(3, 5)), Some(of(3, 3)));
+    assert_eq!(rt; of(1, 3).meet(&of(4, 5)), None);
+}
+
+#[test]
+fn ends_are_printed_in_millionths(rt: HostRuntime) {
+    let cases = [
+        (of(0, 0), (0, 0)),
+        (of(-1, 1), (-1, 1)),
+        (of(-ONE - 1, ONE + 1), (-1_000_001, 1_000_001)),
+        (
+            of(12_345_678_901_234_567_890, 98_765_432_109_876_543_210),
+            (669_260, 5_354_085),
+        ),
+        (
+            of(1 - END, END),
+            (
+                -576_460_752_303_423_488_000_000,
+                576_460_752_303_423_488_000_000,
+            ),
+        ),
+    ];
+    for (interval, wanted) in cases {
+        let found = interval.printed();
+        assert_eq!(rt; (found.lo, found.hi), wanted);
+    }
+}
