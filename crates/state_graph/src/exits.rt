@@ -1,6 +1,6 @@
 //! Exits of states.
 
-ghost use Rattle.std.specs.Prelude.{◌≡◌, IfOk, length, map};
+ghost use Rattle.std.specs.Prelude.{◌≡◌, IfOk, map};
 ghost use Rattle.model_specs.specs.Whole.{list_of};
 ghost use Rattle.state_graph.specs.Exits.{exit_by, exits_of};
 
