@@ -1,6 +1,6 @@
 // From scaled units of 2^-64 to whole millionths of a minor unit.
 
-ghost use Rattle.std.specs.Prelude.{◌≡◌, ℕ, ◌*◌, ◌^◌, ◌≤◌, pos, ◌*ℤ◌, unsigned_abs};
+ghost use Rattle.std.specs.Prelude.{◌≡◌, ◌*◌, ◌^◌, ◌≤◌, pos, ◌*ℤ◌, unsigned_abs};
 ghost use Rattle.frac_laws.specs.Rounding.{floor_of, ceiling_of};
 
 // 10^6 is 2^6 * 15625, so v * 2^g * 10^6 / 2^64 is v * 15625 / 2^(58 - g), and nothing outgrows 128 bits.
