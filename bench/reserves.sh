@@ -7,8 +7,9 @@ set -e
 cd "$(dirname "$0")/.."
 work=$(mktemp -d)
 trap 'rm -rf "$work"' EXIT
-(cd crates/thiele_cli && rt run -- check ../../examples/flat.toml >/dev/null)
-tool=crates/thiele_cli/out/thiele_cli
+tool=$PWD/crates/thiele_cli/out/thiele_cli
+(cd crates/thiele_cli && rt run -- value "$PWD/../../examples/flat.toml") >/dev/null 2>&1 || true
+[ -x "$tool" ] || { echo "the program is not built: $tool"; exit 1; }
 plain=$work/reserves
 gcc -O2 -o "$plain" bench/reserves.c
 
