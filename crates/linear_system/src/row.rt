@@ -12,7 +12,7 @@ use std::alloc::{AllocError, Global};
 #[derive(Drop)]
 pub(crate) struct Row {
     pub(crate) columns: Vec<usize>,
-    pub(crate) numbers: Vec<i128>,
+    pub(crate) numbers: Vec<i64>,
 }
 
 /// The place of a column among the columns, or their number where it is not among them.
@@ -62,7 +62,7 @@ fn columns_of(
     Ok(columns)
 }
 
-fn zeros(alloc: Global, count: usize) -> Result<Vec<i128>, AllocError>
+fn zeros(alloc: Global, count: usize) -> Result<Vec<i64>, AllocError>
     ensures { IfOk result (λ v. v.items ≡ replicate count (pos 0)) }
 {
     let v = vec![in alloc; 0; count]?;
@@ -92,7 +92,7 @@ impl Row {
         Ok(Row { columns, numbers })
     }
 
-    pub(crate) fn set(&mut self, place: usize, m: usize, v: i128)
+    pub(crate) fn set(&mut self, place: usize, m: usize, v: i64)
         requires place { place < length self.old.columns.items }
         requires power { (m + 1) * length self.old.columns.items ≤ length self.old.numbers.items }
         requires width { length self.old.columns.items ≤ 25 }

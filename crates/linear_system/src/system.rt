@@ -75,7 +75,7 @@ impl CellSystem {
     }
 
     /// The numbers of a row, power by power, a number for each column.
-    pub fn numbers(&self, row: usize) -> &[i128]
+    pub fn numbers(&self, row: usize) -> &[i64]
         requires { row < dim_of self.now }
         ensures { result.now ≡ (row_of self.now row).numbers }
     {
@@ -123,7 +123,7 @@ impl CellSystem {
     {
         let r = &mut self.rows[row];
         let place = place_in(&r.columns, col);
-        r.set(place, m, v);
+        r.set(place, m, v as i64);
     }
 }
 

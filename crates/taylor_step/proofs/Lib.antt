@@ -8,6 +8,7 @@ pub mod FitsByRows
 pub mod FitsBySums
 pub mod Floors
 pub mod ListedNumbers
+pub mod NewNumbers
 pub mod Promise
 pub mod RowProducts
 pub mod Rows
@@ -15,6 +16,7 @@ pub mod SampleSteps
 pub mod Scaled
 pub mod Sizes
 pub mod Sparse
+pub mod Starts
 pub mod Stopping
 pub mod StoredSizes
 pub mod SumForms

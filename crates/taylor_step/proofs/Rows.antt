@@ -77,7 +77,7 @@ row_written s l t0 i block at new d r u b h k e ea eb eu =
     (Shifted-more s (map items_of l) t0 i block new u h k q)
 
 -- the zeros lie within their strip
-pub zeros_room : (dim w top n : ℕ) → top ≤ 11 → w ≤ dim + 1 → n ≡ 36 * (dim + 1) → 25 * w + top * w ≤ n
+pub zeros_room : (dim w top n : ℕ) → top ≤ 11 → w ≤ dim + 1 → n ≡ 36 * (dim + 1) → 24 * w + (top + 1) * w ≤ n
 zeros_room dim w top n h k e = grind arith
 
 -- strips in the making

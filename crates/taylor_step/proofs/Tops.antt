@@ -4,7 +4,7 @@ use Rattle.std.specs.Prelude.{◌∷◌, refl, length, Bool, true, false, cond, 
 use Rattle.std.proofs.Common.{ap, sym, ◌∙◌, arith, inl, inr}
 use Rattle.std.proofs.lemmas.Int.{ints, to_z-of_z}
 use Rattle.std.proofs.Common.{to_z, of_z, SFits, ◌^◌}
-use mir.Syntax.{w128}
+use mir.Syntax.{w64}
 use Rattle.std.proofs.lemmas.Bool.{cases_lt}
 use Rattle.std.proofs.lemmas.Nat.{mul-le}
 use Rattle.std.proofs.Math.Nat.{div-mul-le_self, le-max_left, le-max_right}
@@ -222,8 +222,8 @@ greater_covers numbers i a b c before here e j l = elim (cases_lt j i) [
 ]
 
 -- a number that is read has its size
-pub size_read : (z : ℤ) → unsigned_abs z ≤ 2 ^ 90 → unsigned_abs (to_z w128 (of_z w128 z)) ≡ unsigned_abs z
-size_read z h = ap unsigned_abs (to_z-of_z w128 z (fits z h))
+pub size_read : (z : ℤ) → unsigned_abs z ≤ 2 ^ 62 → unsigned_abs (to_z w64 (of_z w64 z)) ≡ unsigned_abs z
+size_read z h = ap unsigned_abs (to_z-of_z w64 z (fits z h))
   where
-    fits : (z : ℤ) → unsigned_abs z ≤ 2 ^ 90 → SFits w128 z
+    fits : (z : ℤ) → unsigned_abs z ≤ 2 ^ 62 → SFits w64 z
     fits z h = grind (arith, ints)

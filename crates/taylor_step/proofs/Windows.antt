@@ -2,9 +2,9 @@
 use Rattle.std.proofs.Common.{◌≡◌, ℕ, suc, zero, ◌+◌, ◌*◌, ◌-◌, ◌<◌, ◌≤◌, length, map, List, [], ◌∷◌, ◌++◌}
 use Rattle.std.proofs.Common.{take, drop, ℤ, pos, refl, ap, sym, ◌∙◌, arith}
 use Rattle.std.proofs.Math.ListN.{length-map}
-use Rattle.taylor_step.proofs.Blocks.{drop-put_at, length-put_at, zeros-length}
+use Rattle.taylor_step.proofs.Blocks.{drop-put_at, zeros-length}
 use Rattle.taylor_step.specs.Strips.{put_at, zeros}
-use Rattle.taylor_step.specs.WholeRun.{strip, start_number, only_start, one_on}
+use Rattle.taylor_step.specs.WholeRun.{strip, nothing, one_on}
 
 take-front : (a r : List ℤ) (n m : ℕ) → n ≡ length a + m → take n (a ++ r) ≡ a ++ take m r
 take-front [] r n m e = let k : n ≡ m = omega arith in rw k refl
@@ -45,30 +45,20 @@ strip-zero cs zero = let e : 0 * length cs ≡ 0 = omega arith in rw e refl
 strip-zero cs (suc n) = let e : suc n * length cs ≡ length cs + n * length cs =
     grind arith in rw (map-zero cs, strip-zero cs n, e) (zeros-append (length cs) (n * length cs))
 
--- the first window: the start_number, and zeros behind it
-pub first_window : (t : List ℤ) (cs : List ℕ) (mid : List ℤ) (top a z n : ℕ) → a ≡ 25 * length cs
-    → z ≡ 24 * length cs → n ≡ (top + 1) * length cs → 36 * length cs ≤ length t → top ≤ 11
-    → take n (drop z (put_at (put_at t a (zeros (top * length cs))) z (map (start_number mid) cs))) ≡ strip cs
-    (only_start mid) (suc top)
-first_window t cs mid top a z n ea ez en room small =
-    let l : length (map (start_number mid) cs) ≡ length cs = simp length-map refl in
-    let b : a ≡ z + length (map (start_number mid) cs) = omega arith in
-    let fits : a + top * length cs ≤ length t = within (length cs) top a (length t) ea room small in
-    let l2 : length (put_at t a (zeros (top * length cs))) ≡ length t =
-    length-put_at t a (zeros (top * length cs)) in
-    ap (take n) (drop-put_at (put_at t a (zeros (top * length cs))) z (map (start_number mid) cs) a b
-    (omega arith) ∙ ap (λ r. map (start_number mid) cs ++ r)
-    (drop-put_at t a (zeros (top * length cs)) (a + top * length cs)
-    (omega (arith, zeros-length (top * length cs))) fits))
-    ∙ take-front (map (start_number mid) cs) _ n (top * length cs) (count top (length cs) n _ en l)
-    ∙ ap (λ r. map (start_number mid) cs ++ r) (all_of (zeros (top * length cs)) _ (top * length cs)
-    (sym (zeros-length (top * length cs))) ∙ sym (strip-zero cs top))
+-- the first window: zeros alone
+pub first_window : (t : List ℤ) (cs : List ℕ) (top z n : ℕ) → z ≡ 24 * length cs → n ≡ (top + 1) * length cs
+    → 36 * length cs ≤ length t → top ≤ 11
+    → take n (drop z (put_at t z (zeros ((top + 1) * length cs)))) ≡ strip cs nothing (suc top)
+first_window t cs top z n ez en room small =
+    let e : top + 1 ≡ suc top = omega arith in
+    ap (take n) (drop-put_at t z (zeros ((top + 1) * length cs)) (z + n)
+    (omega (arith, zeros-length ((top + 1) * length cs), en)) (within (length cs) top z n (length t) ez en room small))
+    ∙ all_of (zeros ((top + 1) * length cs)) (drop (z + n) t) n
+    (omega (arith, zeros-length ((top + 1) * length cs), en))
+    ∙ ap (λ m. zeros (m * length cs)) e ∙ sym (strip-zero cs (suc top))
   where
-    within : (w top a n : ℕ) → a ≡ 25 * w → 36 * w ≤ n → top ≤ 11 → a + top * w ≤ n
-    within w top a n e h k = grind arith
-
-    count : (top w n l : ℕ) → n ≡ (top + 1) * w → l ≡ w → n ≡ l + top * w
-    count top w n l e k = grind arith
+    within : (w top z n m : ℕ) → z ≡ 24 * w → n ≡ (top + 1) * w → 36 * w ≤ m → top ≤ 11 → z + n ≤ m
+    within w top z n m ez en h k = grind arith
 
     all_of : (a r : List ℤ) (n : ℕ) → n ≡ length a → take n (a ++ r) ≡ a
     all_of [] r n e = let k : n ≡ 0 = omega arith in rw k refl

@@ -35,6 +35,15 @@ unfoldable pub past : StoredSystem → List ℤ → ℕ → ℕ → ℕ → ℤ
 past s mid zero = only_start mid
 past s mid (suc k) = one_on (λ col. new_number (row_of s col) s.degree (past s mid k) k) (past s mid k)
 
+-- nothing yet
+abbrev pub nothing : ℕ → ℕ → ℤ
+nothing m col = pos 0
+
+-- the same numbers without the start: at power k, what came after it, and 0 at the start and before
+unfoldable pub later : StoredSystem → List ℤ → ℕ → ℕ → ℕ → ℤ
+later s mid zero = nothing
+later s mid (suc k) = one_on (λ col. new_number (row_of s col) s.degree (past s mid k) k) (later s mid k)
+
 -- the coefficient of power k at a row
 abbrev pub coefficient : StoredSystem → List ℤ → ℕ → ℕ → ℤ
 coefficient s mid k row = past s mid k 0 row

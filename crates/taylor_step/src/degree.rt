@@ -9,7 +9,7 @@ use linear_system::CellSystem;
 
 /// The greatest power at which a row holds a number other than 0, where each power has as many numbers as there
 /// are columns.
-fn top_of_row(numbers: &[i128], columns: usize) -> usize
+fn top_of_row(numbers: &[i64], columns: usize) -> usize
     requires { 1 ≤ columns }
     ensures above { IsZeroFrom numbers.now ((result + 1) * columns) }
     ensures least { (m : ℕ) → IsZeroFrom numbers.now ((m + 1) * columns) → result ≤ m }
@@ -44,13 +44,13 @@ fn first_degree(top: usize) -> usize
 }
 
 /// The greatest size of the numbers.
-pub(crate) fn greatest_size(numbers: &[i128]) -> u128
-    requires { (i : ℕ) → unsigned_abs (slice_index_or numbers.now i (pos 0)) ≤ 2 ^ 90 }
+pub(crate) fn greatest_size(numbers: &[i64]) -> u64
+    requires { (i : ℕ) → unsigned_abs (slice_index_or numbers.now i (pos 0)) ≤ 2 ^ 62 }
     ensures all { (i : ℕ) → unsigned_abs (slice_index_or numbers.now i (pos 0)) ≤ result }
     ensures least { (most : ℕ) → ((i : ℕ) → unsigned_abs (slice_index_or numbers.now i (pos 0)) ≤ most)
         → result ≤ most }
 {
-    let mut greatest: u128 = 0;
+    let mut greatest: u64 = 0;
     for i in 0..numbers.len() {
         greatest = greatest.max(numbers[i].unsigned_abs());
     }
@@ -58,7 +58,7 @@ pub(crate) fn greatest_size(numbers: &[i128]) -> u128
 }
 
 /// The size m powers back from power k is at most 64 * 8^m, for each m from 0 to the top.
-fn is_small_back(sizes: &[u128], k: usize, top: usize) -> bool
+fn is_small_back(sizes: &[u64], k: usize, top: usize) -> bool
     requires power { k < length sizes.now }
     requires top { top < k }
     requires few { top ≤ 11 }
@@ -75,7 +75,7 @@ fn is_small_back(sizes: &[u128], k: usize, top: usize) -> bool
 }
 
 /// A step may stop at power k: it is not below the least degree, and the sizes before it are small.
-pub(crate) fn may_stop(sizes: &[u128], k: usize, top: usize) -> bool
+pub(crate) fn may_stop(sizes: &[u64], k: usize, top: usize) -> bool
     requires power { k < length sizes.now }
     requires few { top ≤ 11 }
     ensures { IsTrue result ↔ ((least_degree top ≤ k)

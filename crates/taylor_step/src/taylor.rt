@@ -63,5 +63,11 @@ pub fn step<L: Ledger>(
 {
     let _degree = sys.degree();
     steps.tick();
-    run(sys, mid, &mut work.newest, &mut work.strips)
+    run(
+        sys,
+        mid,
+        &mut work.start,
+        &mut work.newest,
+        &mut work.strips,
+    )
 }

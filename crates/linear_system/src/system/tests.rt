@@ -3,7 +3,7 @@ ghost use Rattle.linear_system.specs.Setting.{IsMadeFor, may_hold};
 
 use super::*;
 
-const MOST: i128 = 1 << 59;
+const MOST: i64 = 1 << 59;
 
 // A number at a row, a column and a power, of a system of three unknowns and degree 1.
 fn put(system: &mut CellSystem, links: &[(usize, usize)], row: usize, col: usize, m: usize, v: i128)
@@ -26,10 +26,10 @@ fn a_system_is_written_and_cleared(rt: HostRuntime) -> Result<(), AllocError> {
     assert_eq!(rt; system.columns(0), [0, 2, 3].as_slice());
     assert_eq!(rt; system.columns(1), [0, 1, 3].as_slice());
     assert_eq!(rt; system.columns(2), [0, 2, 3].as_slice());
-    put(&mut system, &links, 0, 2, 0, MOST);
+    put(&mut system, &links, 0, 2, 0, i128::from(MOST));
     put(&mut system, &links, 0, 0, 1, -7);
     put(&mut system, &links, 1, 0, 1, 5);
-    put(&mut system, &links, 1, 0, 1, -MOST);
+    put(&mut system, &links, 1, 0, 1, -i128::from(MOST));
     assert_eq!(rt; system.numbers(0), [0, MOST, 0, -7, 0, 0].as_slice());
     assert_eq!(rt; system.numbers(1), [0, 0, 0, -MOST, 0, 0].as_slice());
     system.set_free(2, 1, 3);

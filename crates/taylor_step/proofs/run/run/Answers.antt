@@ -1,5 +1,6 @@
 use Rattle.std.proofs.Common.{◌≡◌, ◌+◌, ℕ, suc, pos, length, arith, get_or, ◌∙◌, sym, ◌+ℤ◌, add-one, refl, List, ℤ}
 use mathlib.Core.Path.{ap₂}
+use Rattle.taylor_step.proofs.Starts.{sizes_fit}
 use Rattle.taylor_step.proofs.Turns.{new_is, new_small, history_more, sums_small}
 use Rattle.std.proofs.lemmas.List.{length-set}
 use Rattle.taylor_step.proofs.Stopping.{power_most, least_degree_most, newest_size}
@@ -32,23 +33,30 @@ loop-k-init c = record {
   small = λ i. omega (arith, c.requires.fit.start_small i);
 }
 
+pub new_numbers-requires-clause-fit : goal.new_numbers-requires-clause-fit
+new_numbers-requires-clause-fit c = λ row b. sizes_fit c.args.sys.now c.args.mid.now c.begin.new.start c.loop-k.k
+    (contents c.loop-k.strips) c.degree-degree.ensures.system c.begin.ensures.start c.loop-k.invariant.history
+    row b c.loop-k-test.true c.requires.fit
+
 pub add_all-requires-clause-newest : goal.add_all-requires-clause-newest
 add_all-requires-clause-newest c = λ i. omega (
   arith,
-  new_small c.args.sys.now c.args.mid.now c.new_numbers.new.newest c.loop-k.k (contents c.loop-k.strips)
-      c.requires.fit c.loop-k-test.true
+  new_small c.args.sys.now c.args.mid.now c.new_numbers.new.newest c.loop-k.k c.requires.fit c.loop-k-test.true
       (c.new_numbers.auto.newest ∙ c.loop-k.auto.newest ∙ c.begin.auto.newest ∙ c.requires.newest)
-      c.loop-k.invariant.history c.new_numbers.ensures.done
+      (new_is c.args.sys.now c.args.mid.now c.begin.new.start c.new_numbers.new.newest c.loop-k.k
+      (contents c.loop-k.strips) c.degree-degree.ensures.system c.begin.ensures.start
+      c.loop-k.invariant.history c.new_numbers.ensures.done)
       (c.new_numbers.ensures.free ∙ c.loop-k.invariant.free) i,
 )
 
 pub greatest_size-requires : goal.greatest_size-requires
 greatest_size-requires c = λ i. omega (
   arith,
-  new_small c.args.sys.now c.args.mid.now c.new_numbers.new.newest c.loop-k.k (contents c.loop-k.strips)
-      c.requires.fit c.loop-k-test.true
+  new_small c.args.sys.now c.args.mid.now c.new_numbers.new.newest c.loop-k.k c.requires.fit c.loop-k-test.true
       (c.new_numbers.auto.newest ∙ c.loop-k.auto.newest ∙ c.begin.auto.newest ∙ c.requires.newest)
-      c.loop-k.invariant.history c.new_numbers.ensures.done
+      (new_is c.args.sys.now c.args.mid.now c.begin.new.start c.new_numbers.new.newest c.loop-k.k
+      (contents c.loop-k.strips) c.degree-degree.ensures.system c.begin.ensures.start
+      c.loop-k.invariant.history c.new_numbers.ensures.done)
       (c.new_numbers.ensures.free ∙ c.loop-k.invariant.free) i,
 )
 
@@ -58,8 +66,9 @@ may_stop-requires-clause-few c =
 
 pub returns-then-may_stop-clause-sums : goal.returns-then-may_stop-clause-sums
 returns-then-may_stop-clause-sums c row b =
-    let new = new_is c.args.sys.now c.args.mid.now c.new_numbers.new.newest c.loop-k.k
-    (contents c.loop-k.strips) c.loop-k.invariant.history c.new_numbers.ensures.done in
+    let new = new_is c.args.sys.now c.args.mid.now c.begin.new.start c.new_numbers.new.newest c.loop-k.k
+    (contents c.loop-k.strips) c.degree-degree.ensures.system c.begin.ensures.start
+    c.loop-k.invariant.history c.new_numbers.ensures.done in
     let long : length c.loop-k.mid ≡ dim_of c.args.sys.now = c.loop-k.auto.mid ∙ c.requires.mid in
     rw add-one (c.add_all.ensures row (rw long b) ∙ ap₂ ◌+ℤ◌ (c.loop-k.invariant.sums row b)
     (new row b) ∙ sym (added-more c.args.sys.now c.args.mid.now c.loop-k.k row))
@@ -72,8 +81,9 @@ returns-then-may_stop-clause-stop c =
     (omega (arith, c.loop-k-test.true, c.loop-k.invariant.long)) c.loop-k.invariant.sizes
     (newest_size c.args.sys.now c.args.mid.now (suc c.loop-k.k) c.new_numbers.new.newest c.greatest_size.result
     (c.new_numbers.auto.newest ∙ c.loop-k.auto.newest ∙ c.begin.auto.newest ∙ c.requires.newest)
-    (new_is c.args.sys.now c.args.mid.now c.new_numbers.new.newest c.loop-k.k
-    (contents c.loop-k.strips) c.loop-k.invariant.history c.new_numbers.ensures.done)
+    (new_is c.args.sys.now c.args.mid.now c.begin.new.start c.new_numbers.new.newest c.loop-k.k
+    (contents c.loop-k.strips) c.degree-degree.ensures.system c.begin.ensures.start
+    c.loop-k.invariant.history c.new_numbers.ensures.done)
     (c.new_numbers.ensures.free ∙ c.loop-k.invariant.free)
     c.greatest_size.ensures.all c.greatest_size.ensures.least))
     c.loop-k-test.true c.if-may_stop.true c.loop-k.invariant.none
@@ -85,19 +95,21 @@ returns-clause-stop c = stop_last c.args.sys.now c.args.mid.now c.loop-k.k c.deg
 pub loop-k-preserved : goal.loop-k-preserved
 loop-k-preserved c =
     let free = c.new_numbers.ensures.free ∙ c.loop-k.invariant.free in
-    let new = new_is c.args.sys.now c.args.mid.now c.new_numbers.new.newest c.loop-k.k
-    (contents c.loop-k.strips) c.loop-k.invariant.history c.new_numbers.ensures.done in
+    let new = new_is c.args.sys.now c.args.mid.now c.begin.new.start c.new_numbers.new.newest c.loop-k.k
+    (contents c.loop-k.strips) c.degree-degree.ensures.system c.begin.ensures.start
+    c.loop-k.invariant.history c.new_numbers.ensures.done in
     let small = new_small c.args.sys.now c.args.mid.now c.new_numbers.new.newest c.loop-k.k
-    (contents c.loop-k.strips) c.requires.fit c.loop-k-test.true
+    c.requires.fit c.loop-k-test.true
     (c.new_numbers.auto.newest ∙ c.loop-k.auto.newest ∙ c.begin.auto.newest ∙ c.requires.newest)
-    c.loop-k.invariant.history c.new_numbers.ensures.done free in
+    new free in
     let long : length c.loop-k.mid ≡ dim_of c.args.sys.now = c.loop-k.auto.mid ∙ c.requires.mid in
     let sizes = one_more_size c.args.sys.now c.args.mid.now c.loop-k.sizes c.loop-k.k c.greatest_size.result
     (omega (arith, c.loop-k-test.true, c.loop-k.invariant.long)) c.loop-k.invariant.sizes
     (newest_size c.args.sys.now c.args.mid.now (suc c.loop-k.k) c.new_numbers.new.newest c.greatest_size.result
     (c.new_numbers.auto.newest ∙ c.loop-k.auto.newest ∙ c.begin.auto.newest ∙ c.requires.newest)
-    (new_is c.args.sys.now c.args.mid.now c.new_numbers.new.newest c.loop-k.k
-    (contents c.loop-k.strips) c.loop-k.invariant.history c.new_numbers.ensures.done)
+    (new_is c.args.sys.now c.args.mid.now c.begin.new.start c.new_numbers.new.newest c.loop-k.k
+    (contents c.loop-k.strips) c.degree-degree.ensures.system c.begin.ensures.start
+    c.loop-k.invariant.history c.new_numbers.ensures.done)
     (c.new_numbers.ensures.free ∙ c.loop-k.invariant.free)
     c.greatest_size.ensures.all c.greatest_size.ensures.least) in
     record {
@@ -105,7 +117,7 @@ loop-k-preserved c =
       free = free;
       history = rw add-one (history_more c.args.sys.now c.args.mid.now c.new_numbers.new.newest c.loop-k.k
           (contents c.loop-k.strips) _ c.degree-degree.ensures.system c.loop-k.invariant.room
-          c.loop-k-test.true c.loop-k.invariant.history c.new_numbers.ensures.done free
+          c.loop-k-test.true c.loop-k.invariant.history new free
           c.write_blocks.ensures.blocks);
       sums = λ i b. rw add-one (c.add_all.ensures i (rw long b) ∙ ap₂ ◌+ℤ◌ (c.loop-k.invariant.sums i b)
           (new i b) ∙ sym (added-more c.args.sys.now c.args.mid.now c.loop-k.k i));

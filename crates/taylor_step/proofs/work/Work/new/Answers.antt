@@ -13,7 +13,10 @@ pub invariant_of-result : goal.invariant_of-result
 invariant_of-result c =
     let e : c.loop-row._row ≡ c.args.dim = omega arith in
     let n : length c.loop-row.strips.items ≡ c.args.dim = c.loop-row.invariant.count ∙ e in (
-      rw n c.in_ok-newest.ensures,
-      λ i b. c.loop-row.invariant.each i (omega arith) ∙
-          (let q : 36 * (c.args.dim + 1) ≡ 36 * (length c.loop-row.strips.items + 1) = omega arith in q),
+      rw n c.in_ok-start.ensures,
+      (
+        rw n c.in_ok-newest.ensures,
+        λ i b. c.loop-row.invariant.each i (omega arith) ∙
+            (let q : 36 * (c.args.dim + 1) ≡ 36 * (length c.loop-row.strips.items + 1) = omega arith in q),
+      ),
     )
