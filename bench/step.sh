@@ -1,6 +1,7 @@
 #!/bin/sh
-# Times the steps of step_bench beside those of the plain C program step.c, which does the same whole-number work, in
-# one run: three states with 4 links and powers up to 3, and twelve with 24 links and powers up to 5.
+# Times the steps of step_bench beside those of the plain C program step.c, which does the same whole-number work with
+# all numbers in 128 bits, in one run: three states with 4 links and powers up to 3, and twelve with 24 links and powers
+# up to 5.
 # Takes the number of steps of the first case (200000); the second one takes a tenth of it.
 set -e
 cd "$(dirname "$0")/.."
