@@ -1,0 +1,23 @@
+use Rattle.std.proofs.Common.{◌≡◌, ◌+◌, ◌≤◌, length}
+use Rattle.std.specs.Prelude.{IsTrue}
+use Rattle.named_numbers.specs.Numbers.{least_degree, highest_degree}
+use Rattle.linear_system.specs.Setting.{HaveSamePlaces}
+use Rattle.model_specs.specs.Stretches.{is_constant_month}
+use Rattle.rate_bounds.specs.MonthPay.{plan_named}
+use Rattle.cell_coeffs.specs.Rows.{IsMadeForFirst}
+use Rattle.thiele_backward.specs.MonthRuns.{StaysNear, StaysNearWithSpare}
+use Rattle.thiele_backward.proofs.month.cells_over.Given as goal
+
+abbrev pub invariant-loop-done : goal.invariant-loop-done
+invariant-loop-done g l = record {
+  near : StaysNear l.adm (plan_named l.which l.adm) l.month l.degree l.done l.initial.mid l.mid;
+  spare : 1 ≤ l.done → StaysNearWithSpare l.adm (plan_named l.which l.adm) l.month l.degree l.done l.initial.mid l.mid;
+  least : least_degree ≤ l.degree;
+  highest : l.degree ≤ highest_degree;
+  constant : IsTrue (is_constant_month l.adm (plan_named l.which l.adm) l.month) → l.degree ≡ least_degree;
+  long : length l.mid ≡ length l.adm.states;
+  work : l.work ≡ l.initial.work;
+  count : l.steps ≡ l.initial.steps + l.done;
+  made : IsMadeForFirst l.adm l.system;
+  places : HaveSamePlaces l.initial.system l.system;
+}

@@ -1,0 +1,2 @@
+pub mod MonthRuns
+pub mod Sweeps
