@@ -1,4 +1,5 @@
 pub mod Parts
+pub mod RightRows
 pub mod RowLines
 pub mod SmallRadii
 pub mod TwoLines

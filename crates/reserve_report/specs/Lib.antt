@@ -3,3 +3,5 @@ pub mod Decimals
 pub mod Limits
 pub mod ReportText
 pub mod Reports
+pub mod Results
+pub mod TableRows

@@ -12,10 +12,12 @@ use Rattle.reserve_report.specs.Decimals.{millionths, millionths_of_size}
 -- the word of a kind of report
 abbrev pub kind_word : Kind → List ℕ
 kind_word kind.Value = codes "value"
+kind_word kind.Reserves = codes "reserves"
 
 -- the word of what a row says
 abbrev pub what_word : What → List ℕ
 what_word what.Value = codes "value"
+what_word what.Reserve = codes "reserve"
 
 -- the name of a state
 abbrev pub state_name : Product → ℕ → List ℕ

@@ -5,6 +5,8 @@
 pub enum Kind {
     /// The value at issue in the start state, the lump of month 0 included.
     Value,
+    /// The reserves of all states, by date and then by state, each without the lump of its date.
+    Reserves,
 }
 
 /// What a row is about.
@@ -12,6 +14,8 @@ pub enum Kind {
 pub enum What {
     /// The value at issue, in millionths of a minor unit.
     Value,
+    /// The reserve at a date in a state, in millionths of a minor unit.
+    Reserve,
 }
 
 /// One printed interval, both ends included.

@@ -14,6 +14,7 @@ impl Kind {
     {
         match self {
             Kind::Value => b"value",
+            Kind::Reserves => b"reserves",
         }
     }
 }
@@ -24,6 +25,7 @@ impl What {
     {
         match self {
             What::Value => b"value",
+            What::Reserve => b"reserve",
         }
     }
 }

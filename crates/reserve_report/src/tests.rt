@@ -22,6 +22,23 @@ const LATER: Row = Row {
     hi: 10_000_000,
 };
 
+const RESERVES: [Row; 2] = [
+    Row {
+        month: 0,
+        state: 0,
+        what: What::Reserve,
+        lo: 0,
+        hi: 0,
+    },
+    Row {
+        month: 12,
+        state: 1,
+        what: What::Reserve,
+        lo: 1,
+        hi: 999_999,
+    },
+];
+
 const INTEREST: Piece = Piece {
     from: 0,
     c: [1, 0, 0, 0, 0, 0],
@@ -83,6 +100,28 @@ fn a_report_is_written(rt: HostRuntime) -> Result<(), Fail> {
         degree 24 scale 10\n\
         0 off value -0.000001 0.000002 0.000003\n\
         12 on value -1.234567 10.000000 11.234567\n\
+        end 2\n";
+    assert_eq!(rt; text.as_slice(), wanted.as_slice());
+    Ok(())
+}
+
+#[test]
+fn reserves_are_written_by_date_and_state(rt: HostRuntime) -> Result<(), Fail> {
+    let alloc = rt.alloc();
+    let product = endowment(alloc)?;
+    assert_eq!(rt; product.graph().states(), 2);
+    let report = Report {
+        kind: Kind::Reserves,
+        degree: 8,
+        scale: 0,
+        tolerance: [2, 1_000_000].to_vec(alloc)?,
+        rows: RESERVES.to_vec(alloc)?,
+    };
+    let text = report_bytes(alloc, &product, &report)?;
+    let wanted = b"report reserves endowment\n\
+        degree 8 scale 0\n\
+        0 on reserve 0.000000 0.000000 0.000002\n\
+        12 off reserve 0.000001 0.999999 1.000000\n\
         end 2\n";
     assert_eq!(rt; text.as_slice(), wanted.as_slice());
     Ok(())

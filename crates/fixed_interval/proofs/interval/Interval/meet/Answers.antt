@@ -2,7 +2,7 @@ use Rattle.std.proofs.Common.{◌^◌, ◌≤ℤ◌, ℤ, FitsSigned, rules, ari
 use Rattle.std.specs.Int.{w128, int_min, int_max}
 use Rattle.std.proofs.lemmas.Bool.{false≢true}
 use Rattle.std.proofs.lemmas.Int.{ints, to_z-of_z}
-use Rattle.frac_laws.specs.Fraction.{Fraction, over, ◌≤ℚ◌}
+use Rattle.frac_laws.specs.Fraction.{over, ◌≤ℚ◌}
 use Rattle.fixed_interval.proofs.Enclosing.{above_both, below_both, lies_in_both, ends_meet, end_lies_in_both}
 use Rattle.fixed_interval.proofs.interval.Interval.meet.Goals as goal
 

@@ -1,8 +1,8 @@
-use Rattle.std.proofs.Common.{ℤ, ◌^◌, ◌*◌, ◌+◌, pos, ◌+ℤ◌, ◌*ℤ◌, ◌≤ℤ◌, FitsSigned, rules, sym, subst}
+use Rattle.std.proofs.Common.{ℤ, ◌^◌, pos, FitsSigned, rules, sym, subst}
 use Rattle.std.specs.Int.{w128}
 use Rattle.std.proofs.lemmas.Int.{to_z-of_z}
 use Rattle.frac_laws.specs.Fraction.{whole, ◌*ℚ◌, ◌≤ℚ◌}
-use Rattle.fixed_interval.proofs.PrintedEnds.{low_printed, high_printed, ends_in_order, printed_apart}
+use Rattle.fixed_interval.proofs.PrintedEnds.{low_printed, high_printed}
 use Rattle.fixed_interval.proofs.interval.Interval.printed.Goals as goal
 
 pub returns-clause-encloses : goal.returns-clause-encloses

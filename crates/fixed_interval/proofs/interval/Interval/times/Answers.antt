@@ -1,4 +1,4 @@
-use Rattle.std.proofs.Common.{ℤ, ◌*ℤ◌, FitsSigned, rules, sym, ◌∙◌}
+use Rattle.std.proofs.Common.{◌*ℤ◌, FitsSigned, rules, sym, ◌∙◌}
 use Rattle.std.specs.Int.{w128, int_min, int_max}
 use Rattle.std.proofs.lemmas.Int.{to_z-of_z}
 use mathlib.Core.Path.{ap₂}
