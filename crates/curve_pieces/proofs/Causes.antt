@@ -1,13 +1,13 @@
 -- The first broken place is one place.
 use Rattle.std.proofs.Common.{◌≡◌, ℕ, arith, subst, inl, inr}
 use Rattle.curve_pieces.specs.BrokenRules.{IsFirstBroken}
-use Rattle.curve_pieces.proofs.Starts.{below_or_not}
+use Rattle.std.proofs.lemmas.Bool.{cases_lt}
 
 pub first_broken_is_one : (Holds : ℕ → Type 0) (i j : ℕ) → IsFirstBroken Holds i → IsFirstBroken Holds j → i ≡ j
 first_broken_is_one Holds i j a b =
-    elim (below_or_not i j) [
+    elim (cases_lt i j) [
       | inl below ↦ absurd (a.broken (b.before i below))
-      | inr above ↦ elim (below_or_not j i) [
+      | inr above ↦ elim (cases_lt j i) [
         | inl below ↦ absurd (b.broken (a.before j below))
         | inr upto ↦ omega arith
       ]

@@ -8,7 +8,7 @@ starts_below : (c : PiecewiseCurve) → IsAllowed c → (k : ℕ) → k < length
 starts_below c allowed zero inside = (allowed.in_order 0).2
 starts_below c allowed (suc k) inside = (allowed.in_order (suc k) inside).1
 
-starts_rise : (c : PiecewiseCurve) → IsAllowed c → StartsRise c.months (piece_starts c.pieces)
+pub starts_rise : (c : PiecewiseCurve) → IsAllowed c → StartsRise c.months (piece_starts c.pieces)
 starts_rise c allowed = record {
   some = (allowed.in_order 0).0;
   first = (allowed.in_order 0).1;

@@ -1,52 +1,61 @@
--- What a look-up of a piece by its month gives.
+-- What a look-up by a month gives, of stored items that stand for records with a start.
 use Rattle.std.proofs.Common.{◌≡◌, ℕ, ◌+◌, ◌-◌, ◌<◌, ◌≤◌, List, length, get_or, arith, ap, sym, ◌∙◌}
-use Rattle.model_specs.specs.Curve.{zero_piece, piece_at}
-use Rattle.model_specs.specs.RecordRules.{IsBounded}
-use Rattle.curve_pieces.specs.declared.piece.Piece.{Piece}
-use Rattle.curve_pieces.specs.Records.{record_of, records_of, starts_of}
-use Rattle.curve_pieces.specs.PiecewiseCurves.{PiecewiseCurve, IsAllowed}
-use Rattle.curve_pieces.proofs.Starts.{length-records, length-starts, record-at, start-at}
-use Rattle.curve_pieces.proofs.Covering.{covering, bounded_there}
+use Rattle.std.specs.Prelude.{nat_le, filter, map}
+use Rattle.std.proofs.lemmas.List.{length-map, get_or-map}
+use Rattle.model_specs.specs.Whole.{last_or}
+use Rattle.model_specs.specs.RecordRules.{StartsRise, months_of}
+use Rattle.curve_pieces.proofs.Covering.{IsLastStart, start_of, covering, held}
 
--- the curve of some pieces
-abbrev pub curve_of : List Piece → ℕ → PiecewiseCurve
-curve_of pieces months = record { pieces = records_of pieces; months = months }
-
--- the piece p stands at the place `low`, which a search for the month found
-pub record IsFound (pieces : List Piece) (months month low : ℕ) (p : Piece) : Type 0 where
-  pub allowed : IsAllowed (curve_of pieces months)
+-- the item stands at the place `low`, which a search for a month of the term found
+pub record IsFound {A B : Type 0} (record_of : A → B) (start : B → ℕ) (items : List A) (months month low : ℕ) (item : A)
+    : Type 0 where
   pub term : month < months
-  pub inside : low < length pieces
-  pub piece_is : p ≡ get_or pieces low p
-  pub started : get_or (starts_of pieces) low 0 ≤ month
-  pub next : low + 1 < length pieces → month < get_or (starts_of pieces) (low + 1) 0
+  pub inside : low < length items
+  pub item_is : item ≡ get_or items low item
+  pub started : start_of start (map record_of items) low ≤ month
+  pub next : low + 1 < length items → month < start_of start (map record_of items) (low + 1)
 
-same_length : (pieces : List Piece) → length (starts_of pieces) ≡ length (records_of pieces)
-same_length pieces = length-starts pieces ∙ sym (length-records pieces)
+pub found_record : {A B : Type 0} (record_of : A → B) (start : B → ℕ) (items : List A) (months month low : ℕ) (item : A)
+    (none : B) → IsFound record_of start items months month low item
+    → record_of item ≡ get_or (map record_of items) low none
+found_record record_of start items months month low item none f =
+    ap record_of f.item_is ∙ sym (get_or-map record_of items low item none f.inside)
 
-record_is : (pieces : List Piece) (months month low : ℕ) (p : Piece) → IsFound pieces months month low p
-    → record_of p ≡ get_or (records_of pieces) low zero_piece
-record_is pieces months month low p f =
-    ap record_of f.piece_is ∙ sym (record-at pieces low p zero_piece f.inside)
+pub found_start : {A B : Type 0} (record_of : A → B) (start : B → ℕ) (items : List A) (months month low : ℕ) (item : A)
+    → IsFound record_of start items months month low item
+    → start (record_of item) ≡ start_of start (map record_of items) low
+found_start record_of start items months month low item f =
+    ap start (found_record record_of start items months month low item (record_of item) f)
+    ∙ sym (get_or-map start (map record_of items) low (record_of item) 0 (omega (
+      arith,
+      length-map items record_of,
+      f.inside,
+    )))
 
-pub found_covers : (pieces : List Piece) (months month low : ℕ) (p : Piece) → IsFound pieces months month low p
-    → record_of p ≡ piece_at (records_of pieces) month
-found_covers pieces months month low p f =
-    record_is pieces months month low p f
-    ∙ sym (covering (records_of pieces) months month low f.allowed.in_order
-    (omega (arith, length-records pieces, f.inside)) (same_length pieces) f.started
-    (λ below. f.next (omega (arith, length-records pieces))))
+is_last : {A B : Type 0} (record_of : A → B) (start : B → ℕ) (items : List A) (months month low : ℕ) (item : A)
+    → IsFound record_of start items months month low item → IsLastStart start (map record_of items) months month low
+is_last record_of start items months month low item f =
+    record {
+      term = f.term;
+      inside = omega (arith, length-map items record_of, f.inside);
+      started = f.started;
+      next = λ below. f.next (omega (arith, length-map items record_of));
+    }
 
-pub found_start : (pieces : List Piece) (months month low : ℕ) (p : Piece) → IsFound pieces months month low p
-    → p.from ≡ get_or (starts_of pieces) low 0
-found_start pieces months month low p f = ap (λ q. q.from) f.piece_is ∙ sym (start-at pieces low p f.inside)
+-- it is the last one that starts at or before the month
+pub found_covers : {A B : Type 0} (record_of : A → B) (start : B → ℕ) (items : List A) (months month low : ℕ) (item : A)
+    (none : B) → StartsRise months (map start (map record_of items))
+    → IsFound record_of start items months month low item
+    → record_of item ≡ last_or none (filter (λ r. nat_le (start r) month) (map record_of items))
+found_covers record_of start items months month low item none rise f =
+    found_record record_of start items months month low item none f
+    ∙ sym (covering start none (map record_of items) months month low rise
+    (is_last record_of start items months month low item f))
 
-pub found_is_bounded : (pieces : List Piece) (months month low : ℕ) (p : Piece) → IsFound pieces months month low p
-    → IsBounded p.c (month - p.from + 1)
-found_is_bounded pieces months month low p f =
-    let there = bounded_there (records_of pieces) months month low (f.allowed.bounded low)
-    (omega (arith, length-records pieces, f.inside)) (same_length pieces) f.started f.term
-    (λ below. f.next (omega (arith, length-records pieces))) in
-    let same : (get_or (records_of pieces) low zero_piece).c ≡ p.c =
-    ap (λ q. q.c) (sym (record_is pieces months month low p f)) in
-    rw (found_start pieces months month low p f, ← same) there
+-- and holds to the month's end at least
+pub found_holds : {A B : Type 0} (record_of : A → B) (start : B → ℕ) (items : List A) (months month low : ℕ) (item : A)
+    → IsFound record_of start items months month low item
+    → month - start (record_of item) + 1 ≤ months_of months (map start (map record_of items)) low
+found_holds record_of start items months month low item f =
+    rw (found_start record_of start items months month low item f)
+    (held start (map record_of items) months month low (is_last record_of start items months month low item f))

@@ -1,9 +1,10 @@
--- Rule 9 bounds the numbers that a cell or a month forms.
+-- The rule on the size of a piece bounds the numbers that a cell or a month of it forms.
 use Rattle.std.proofs.Common.{◌≡◌, ℕ, zero, suc, ◌+◌, ◌*◌, ◌^◌, ◌<◌, ◌≤◌, ℤ, pos, List, [], ◌∷◌, length, get_or, max}
 use Rattle.std.proofs.Common.{arith, ap, sym, ◌∙◌}
 use Rattle.std.specs.Prelude.{unsigned_abs}
 use Rattle.std.proofs.Math.Nat.{mul_assoc, mul_comm, mul-le-mul_left, mul-le-mul_right, pow-zero, pow-suc}
 use Rattle.std.proofs.lemmas.Int.{unsigned_abs-mul}
+use Rattle.named_numbers.specs.Numbers.{months_of_year, cells_of_month, cells_of_year, most_coefficient}
 use Rattle.model_specs.specs.RecordRules.{IsBounded}
 use Rattle.poly_small.specs.WholePolynomials.{value_of_sizes, in_units_of}
 use Rattle.poly_small.proofs.Values.{value_of_sizes-grows}
@@ -55,49 +56,49 @@ sizes_within (c ∷ p) s u a l j h =
         let same : j + suc i ≡ suc j + i = omega arith in
         rw same at (h (suc i) (omega arith))
 
-pub bounded_sizes : (p : List ℤ) (s u a : ℕ) → length p ≡ 6 → IsBounded p s
-    → value_of_sizes (in_units_of u p) (a * s) ≤ 10 ^ 22 * geometric a u 6
-bounded_sizes p s u a six bounded =
-    let within = sizes_within p s u a (10 ^ 22) 0 (λ i below. at_place i below) in
-    omega (arith, rw (pow-zero s, six) at within)
+pub bounded_sizes : (p : List ℤ) (s u a n : ℕ) → length p ≡ n → IsBounded p s
+    → value_of_sizes (in_units_of u p) (a * s) ≤ most_coefficient * geometric a u n
+bounded_sizes p s u a n long bounded =
+    let within = sizes_within p s u a most_coefficient 0 (λ i below. at_place i below) in
+    omega (arith, rw (pow-zero s, long) at within)
   where
-    at_place : (i : ℕ) → i < length p → unsigned_abs (get_or p i (pos 0)) * s ^ (0 + i) ≤ 10 ^ 22
+    at_place : (i : ℕ) → i < length p → unsigned_abs (get_or p i (pos 0)) * s ^ (0 + i) ≤ most_coefficient
     at_place i below = let same : 0 + i ≡ i = omega arith in rw same (bounded i below)
 
 -- in cells: from a piece's start to the end of its month k there are 32 (k + 1) cells
-pub cell_sizes : (p : List ℤ) (k x : ℕ) → length p ≡ 6 → IsBounded p (k + 1) → x ≤ 32 * (k + 1)
-    → 320 * value_of_sizes (in_units_of 384 p) x < 2 ^ 126
+pub cell_sizes : (p : List ℤ) (k x : ℕ) → length p ≡ 6 → IsBounded p (k + 1) → x ≤ cells_of_month * (k + 1)
+    → 320 * value_of_sizes (in_units_of cells_of_year p) x < 2 ^ 126
 cell_sizes p k x six bounded within =
     omega (
       arith,
-      bounded_sizes p (k + 1) 384 32 six bounded,
-      value_of_sizes-grows (in_units_of 384 p) x (32 * (k + 1)) within,
+      bounded_sizes p (k + 1) cells_of_year cells_of_month 6 six bounded,
+      value_of_sizes-grows (in_units_of cells_of_year p) x (cells_of_month * (k + 1)) within,
     )
 
 -- in months
 pub month_sizes : (p : List ℤ) (k x : ℕ) → length p ≡ 6 → IsBounded p (k + 1) → x ≤ 1 * (k + 1)
-    → 320 * value_of_sizes (in_units_of 12 p) x < 2 ^ 100
+    → 320 * value_of_sizes (in_units_of months_of_year p) x < 2 ^ 100
 month_sizes p k x six bounded within =
     omega (
       arith,
-      bounded_sizes p (k + 1) 12 1 six bounded,
-      value_of_sizes-grows (in_units_of 12 p) x (1 * (k + 1)) within,
+      bounded_sizes p (k + 1) months_of_year 1 6 six bounded,
+      value_of_sizes-grows (in_units_of months_of_year p) x (1 * (k + 1)) within,
     )
 
 -- the numbers of a cell: the coefficients c of a piece, in units of a cell, shifted to the cell
 pub record FormsCell (c q r : List ℤ) (k origin : ℕ) : Type 0 where
   pub six : length c ≡ 6
   pub bounded : IsBounded c (k + 1)
-  pub origin_within : origin ≤ 32 * (k + 1)
-  pub units : q ≡ in_units_of 384 c
+  pub origin_within : origin ≤ cells_of_month * (k + 1)
+  pub units : q ≡ in_units_of cells_of_year c
   pub size : value_of_sizes r 1 ≤ 32 * value_of_sizes q (max origin 1)
 
 pub units_fit : (c : List ℤ) (k : ℕ) → length c ≡ 6 → IsBounded c (k + 1)
-    → value_of_sizes (in_units_of 384 c) 1 < 2 ^ 126
+    → value_of_sizes (in_units_of cells_of_year c) 1 < 2 ^ 126
 units_fit c k six bounded = omega (arith, cell_sizes c k 1 six bounded (omega arith))
 
-pub shift_fits : (c q : List ℤ) (k origin : ℕ) → length c ≡ 6 → IsBounded c (k + 1) → origin ≤ 32 * (k + 1)
-    → q ≡ in_units_of 384 c → 10 * value_of_sizes q (max origin 1) < 2 ^ 126
+pub shift_fits : (c q : List ℤ) (k origin : ℕ) → length c ≡ 6 → IsBounded c (k + 1) → origin ≤ cells_of_month * (k + 1)
+    → q ≡ in_units_of cells_of_year c → 10 * value_of_sizes q (max origin 1) < 2 ^ 126
 shift_fits c q k origin six bounded within units =
     omega (
       arith,
@@ -115,5 +116,5 @@ cell_fits c q r k origin f =
     )
 
 pub month_fits : (c : List ℤ) (k : ℕ) → length c ≡ 6 → IsBounded c (k + 1)
-    → 320 * value_of_sizes (in_units_of 12 c) (max k 1) < 2 ^ 100
+    → 320 * value_of_sizes (in_units_of months_of_year c) (max k 1) < 2 ^ 100
 month_fits c k six bounded = month_sizes c k (max k 1) six bounded (omega arith)

@@ -2,3 +2,4 @@ pub mod BrokenRules
 pub mod Directions
 pub mod PiecewiseCurves
 pub mod Records
+pub mod StartMonths

@@ -3,6 +3,7 @@
 ghost use Rattle.std.specs.Prelude.{◌≡◌, ℕ, ◌+◌, ◌-◌, ◌*◌, ◌^◌, ◌<◌, ◌≤◌, ◌↔◌, IfOk, IsOk, pos};
 ghost use Rattle.std.specs.Prelude.{unsigned_abs, slice_index_or};
 ghost use Rattle.frac_laws.specs.Polynomials.{all_over};
+ghost use Rattle.named_numbers.specs.Numbers.{most_months, cells_of_month, cells_of_year};
 ghost use Rattle.model_specs.specs.Curve.{piece_at};
 ghost use Rattle.model_specs.specs.Cells.{cells_of_32, curve_cell};
 ghost use Rattle.model_specs.specs.RecordRules.{IsBounded, IsBoundedCurve, IsCurve};
@@ -15,7 +16,9 @@ ghost use Rattle.curve_pieces.specs.BrokenRules.{StartsInOrder, IsBoundedAt, IsF
 
 use crate::cell::{CellPoly, Dir, origin, turned};
 use crate::piece::Piece;
-use crate::rules::{first_out_of_order, first_unbounded, have_six, last_start};
+use crate::rules::{first_out_of_order, first_unbounded, have_six};
+use crate::search::last_start;
+use named_numbers::CELLS_OF_YEAR;
 use std::alloc::Global;
 use std::marker::Model;
 
@@ -50,11 +53,14 @@ impl Curve {
     /// The curve with these pieces. Rule 8 is looked at over all pieces before rule 9. Takes no memory of its own.
     pub fn new(_alloc: Global, pieces: Vec<Piece>, months: u32) -> Result<Curve, CurveError>
         requires some_months { 1 ≤ months }
-        requires most_months { months ≤ 1200 }
+        requires most_months { months ≤ most_months }
         ensures ok { IfOk result (λ curve. curve ≡ record { pieces = records_of pieces.items; months = months }) }
         ensures lawful { IsOk result ↔ IsAllowed (record { pieces = records_of pieces.items; months = months }) }
-        ensures rule_8 { (i : ℕ) → (result ≡ Err (CurveError.Rule 8 i)) ↔ IsFirstBroken (StartsInOrder months (starts_of pieces.items)) i }
-        ensures rule_9 { (i : ℕ) → (result ≡ Err (CurveError.Rule 9 i)) ↔ (((k : ℕ) → StartsInOrder months (starts_of pieces.items) k) × IsFirstBroken (IsBoundedAt months (records_of pieces.items)) i) }
+        ensures rule_8 { (i : ℕ) → (result ≡ Err (CurveError.Rule 8 i))
+            ↔ IsFirstBroken (StartsInOrder months (starts_of pieces.items)) i }
+        ensures rule_9 { (i : ℕ) → (result ≡ Err (CurveError.Rule 9 i))
+            ↔ (((k : ℕ) → StartsInOrder months (starts_of pieces.items) k)
+            × IsFirstBroken (IsBoundedAt months (records_of pieces.items)) i) }
     {
         if let Some(index) = first_out_of_order(&pieces, months) {
             return Err(CurveError::Rule(8, index));
@@ -89,7 +95,7 @@ impl Curve {
         ensures covers { record_of result.now ≡ piece_at self.now.pieces month }
         ensures started { result.now.from ≤ month }
         ensures bounded { IsBounded result.now.c (month - result.now.from + 1) }
-        ensures term { self.now.months ≤ 1200 }
+        ensures term { self.now.months ≤ most_months }
     {
         &self.pieces[last_start(&self.pieces, month)]
     }
@@ -109,14 +115,15 @@ impl Curve {
     /// `den * 384^6`, where the curve is over `den`. Takes no memory.
     pub fn cell_of(&self, month: u32, cell: u32, dir: Dir) -> CellPoly
         requires month { month < self.now.months }
-        requires cell { cell < 32 }
+        requires cell { cell < cells_of_month }
         ensures polynomial { (den : ℕ) → 1 ≤ den
-            → all_over (den * 384 ^ 6) result.n ≡ curve_cell (cells_of_32 (direction_of dir)) den self.now.pieces month cell }
+            → all_over (den * cells_of_year ^ 6) result.n
+            ≡ curve_cell (cells_of_32 (direction_of dir)) den self.now.pieces month cell }
         ensures size { value_of_sizes result.n 1 < 2 ^ 126 }
     {
         let piece = self.at(month);
         let origin = origin(dir, month - piece.from, cell);
-        let n = turned(piece.in_years().in_units(384).shift(origin), dir).c;
+        let n = turned(piece.in_years().in_units(CELLS_OF_YEAR).shift(origin), dir).c;
         CellPoly { n }
     }
 }

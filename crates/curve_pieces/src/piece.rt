@@ -3,6 +3,7 @@
 ghost use Rattle.std.specs.Prelude.{◌≡◌, ◌<◌, length, slice_index};
 ghost use Rattle.curve_pieces.specs.Records.{record_of, starts_of};
 
+use crate::search::Starts;
 use poly_small::Poly;
 
 /// From month `from` on, up to the next piece or to the term, `(c[0] + c[1] t + .. + c[5] t^5) / den` per year, where t
@@ -11,6 +12,14 @@ use poly_small::Poly;
 pub struct Piece {
     pub from: u32,
     pub c: [i64; 6],
+}
+
+impl Starts for Piece {
+    ghost as_piece = { record_of };
+
+    fn start(&self) -> u32 {
+        self.from
+    }
 }
 
 impl Piece {

@@ -1,23 +1,22 @@
 //! The first piece that breaks a rule.
 
-ghost use Rattle.std.specs.Prelude.{◌≡◌, ℕ, ◌+◌, ◌<◌, ◌≤◌, ◌↔◌, All, IsTrue, IfSome, IfNone, length, slice_index, slice_index_or};
+ghost use Rattle.std.specs.Prelude.{◌≡◌, ℕ, ◌+◌, ◌<◌, ◌≤◌, ◌↔◌, All, IsTrue, IfSome, IfNone, length, slice_index_or};
+ghost use Rattle.named_numbers.specs.Numbers.{most_months};
 ghost use Rattle.model_specs.specs.RecordRules.{IsBounded};
-ghost use Rattle.curve_pieces.specs.Records.{record_of, records_of, starts_of};
+ghost use Rattle.curve_pieces.specs.Records.{records_of, starts_of};
 ghost use Rattle.curve_pieces.specs.BrokenRules.{StartsInOrder, IsBoundedAt, IsFirstBroken};
 
 use crate::piece::{Piece, start};
-
-// The largest size of a coefficient times a power of the piece's months.
-const LARGEST: u128 = 10_000_000_000_000_000_000_000;
+use named_numbers::MOST_COEFFICIENT;
 
 // Rule 9: each |c[i]| s^i is at most 10^22, for a piece of s months.
 fn is_bounded(c: &[i64; 6], months: u32) -> bool
-    requires { months ≤ 1200 }
+    requires { months ≤ most_months }
     ensures { IsTrue result ↔ IsBounded c.now months }
 {
     let mut power: u128 = 1;
     for number in c {
-        if u128::from(number.unsigned_abs()) * power > LARGEST {
+        if u128::from(number.unsigned_abs()) * power > MOST_COEFFICIENT {
             return false;
         }
         power *= u128::from(months);
@@ -54,7 +53,7 @@ fn end(pieces: &[Piece], i: usize, months: u32) -> u32
 // Rule 9 at a piece.
 fn is_bounded_at(pieces: &[Piece], i: usize, months: u32) -> bool
     requires inside { i < length pieces.now }
-    requires term { months ≤ 1200 }
+    requires term { months ≤ most_months }
     requires in_order { (k : ℕ) → StartsInOrder months (starts_of pieces.now) k }
     ensures { IsTrue result ↔ IsBoundedAt months (records_of pieces.now) i }
 {
@@ -82,7 +81,7 @@ pub(crate) fn first_out_of_order(pieces: &[Piece], months: u32) -> Option<u32>
 
 /// The first piece that breaks rule 9.
 pub(crate) fn first_unbounded(pieces: &[Piece], months: u32) -> Option<u32>
-    requires term { months ≤ 1200 }
+    requires term { months ≤ most_months }
     requires in_order { (k : ℕ) → StartsInOrder months (starts_of pieces.now) k }
     ensures some { IfSome result (IsFirstBroken (IsBoundedAt months (records_of pieces.now))) }
     ensures none { IfNone result ((i : ℕ) → IsBoundedAt months (records_of pieces.now) i) }
@@ -95,27 +94,6 @@ pub(crate) fn first_unbounded(pieces: &[Piece], months: u32) -> Option<u32>
         index += 1;
     }
     None
-}
-
-/// The place of the last piece that starts at or before a month, by halving.
-pub(crate) fn last_start(pieces: &[Piece], month: u32) -> usize
-    requires some { 0 < length pieces.now }
-    requires first { slice_index (starts_of pieces.now) 0 ≤ month }
-    ensures inside { result < length pieces.now }
-    ensures started { slice_index (starts_of pieces.now) result ≤ month }
-    ensures next { result + 1 < length pieces.now → month < slice_index (starts_of pieces.now) (result + 1) }
-{
-    let mut low = 0;
-    let mut high = pieces.len();
-    while high - low > 1 {
-        let middle = low + (high - low) / 2;
-        if start(pieces, middle) <= month {
-            low = middle;
-        } else {
-            high = middle;
-        }
-    }
-    low
 }
 
 // The first coefficient is read so that a proof knows of the array and its length.

@@ -1,5 +1,5 @@
 -- The greatest and the least of numbers that rule 11 bounds, and the load of them.
-use Rattle.std.proofs.Common.{◌≡◌, ℕ, ◌+◌, ◌*◌, ◌^◌, ◌≤◌, ℤ, pos, negsuc, ◌-ℤ◌, ◌≤ℤ◌, List, [], ◌∷◌}
+use Rattle.std.proofs.Common.{◌≡◌, ℕ, ◌+◌, ◌*◌, ◌≤◌, ℤ, pos, negsuc, ◌-ℤ◌, ◌≤ℤ◌, List, [], ◌∷◌}
 use Rattle.std.proofs.Common.{length, get_or, Fits, FitsSigned, arith, refl, ap, sym}
 use Rattle.std.specs.Prelude.{All, map, unsigned_abs}
 use Rattle.std.specs.Int.{div_ceil, int_max, int_min}
@@ -8,6 +8,7 @@ use lib.Signed.{non_neg}
 use Rattle.std.specs.Int.{w128}
 use Rattle.std.proofs.lemmas.Int.{ints, fits_signed_from_abs}
 use Rattle.std.proofs.lemmas.List.Elements.{All-head, All-tail}
+use Rattle.named_numbers.specs.Numbers.{most_amount, bernstein_unit}
 use Rattle.model_specs.specs.Whole.{greatest_natural, greatest_whole, least_whole, natural_part}
 use Rattle.poly_small.proofs.Sixes.{six_are_all}
 use Rattle.payment_plan.specs.Loads.{AreWithin, load_of_numerators}
@@ -77,12 +78,13 @@ non_negative (pos n) h = tt
 non_negative (negsuc n) h = absurd (omega (arith, ints))
 
 extremes_apart : (xs : List ℤ) (g l : ℤ) → AreExtremes xs g l
-    → (pos 0 ≤ℤ (g -ℤ l)) × (unsigned_abs (g -ℤ l) ≤ 2 * (10 ^ 12 * 2488320))
+    → (pos 0 ≤ℤ (g -ℤ l)) × (unsigned_abs (g -ℤ l) ≤ 2 * (most_amount * bernstein_unit))
 extremes_apart xs g l e =
     rw (e.greatest, e.least) (
       difference_positive (greatest_whole xs) (least_whole xs) (least_below_greatest xs),
-      difference_within (greatest_whole xs) (least_whole xs) (10 ^ 12 * 2488320)
-          (greatest_within xs (10 ^ 12 * 2488320) e.within) (least_within xs (10 ^ 12 * 2488320) e.within),
+      difference_within (greatest_whole xs) (least_whole xs) (most_amount * bernstein_unit)
+          (greatest_within xs (most_amount * bernstein_unit) e.within)
+          (least_within xs (most_amount * bernstein_unit) e.within),
     )
 
 pub extremes_differ : (xs : List ℤ) (g l : ℤ) → AreExtremes xs g l
@@ -106,23 +108,24 @@ cast_fits xs g l e = (
 
 -- the parts of a load
 pub parts_within : (xs : List ℤ) → AreWithin xs
-    → (greatest_natural (map unsigned_abs xs) ≤ 10 ^ 12 * 2488320)
-    × (natural_part (greatest_whole xs -ℤ least_whole xs) ≤ 2 * (10 ^ 12 * 2488320))
+    → (greatest_natural (map unsigned_abs xs) ≤ most_amount * bernstein_unit)
+    × (natural_part (greatest_whole xs -ℤ least_whole xs) ≤ 2 * (most_amount * bernstein_unit))
 parts_within xs within = (
-  greatest_size_within xs (10 ^ 12 * 2488320) within,
+  greatest_size_within xs (most_amount * bernstein_unit) within,
   omega (
     arith,
     natural_part_within (greatest_whole xs -ℤ least_whole xs),
-    difference_within (greatest_whole xs) (least_whole xs) (10 ^ 12 * 2488320)
-        (greatest_within xs (10 ^ 12 * 2488320) within) (least_within xs (10 ^ 12 * 2488320) within),
+    difference_within (greatest_whole xs) (least_whole xs) (most_amount * bernstein_unit)
+        (greatest_within xs (most_amount * bernstein_unit) within)
+        (least_within xs (most_amount * bernstein_unit) within),
   ),
 )
 
-ceiling_within : (a b : ℕ) → a ≤ 10 ^ 12 * 2488320 → b ≤ 2 * (10 ^ 12 * 2488320)
-    → div_ceil (a + 4 * b) 2488320 ≤ 9 * 10 ^ 12
+ceiling_within : (a b : ℕ) → a ≤ most_amount * bernstein_unit → b ≤ 2 * (most_amount * bernstein_unit)
+    → div_ceil (a + 4 * b) bernstein_unit ≤ 9 * most_amount
 ceiling_within a b h k = omega arith
 
-pub load_within : (xs : List ℤ) → AreWithin xs → load_of_numerators xs ≤ 9 * 10 ^ 12
+pub load_within : (xs : List ℤ) → AreWithin xs → load_of_numerators xs ≤ 9 * most_amount
 load_within xs within =
     ceiling_within (greatest_natural (map unsigned_abs xs)) (natural_part (greatest_whole xs -ℤ least_whole xs))
     (parts_within xs within).0 (parts_within xs within).1

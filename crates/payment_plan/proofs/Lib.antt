@@ -1,15 +1,11 @@
 pub mod Constants
-pub mod Covering
 pub mod Dated
 pub mod Extremes
-pub mod FourCoefficients
 pub mod GoodSteps
 pub mod Lookups
-pub mod Numerators
 pub mod PatternDates
 pub mod Patterns
 pub mod Places
 pub mod Shifts
 pub mod Sizes
-pub mod Starts
 pub mod TableRows

@@ -15,7 +15,7 @@ use Rattle.model_specs.specs.Payments.{lumps_at, continuous_pattern, dated_patte
 use Rattle.payment_plan.specs.Payments.{Payments, pattern_of}
 use Rattle.payment_plan.specs.Tables.{payer_at, payers_in_order, pays_at_date}
 use Rattle.payment_plan.proofs.Places.{places-agree, places-none}
-use Rattle.payment_plan.proofs.Starts.{below_or_not}
+use Rattle.std.proofs.lemmas.Bool.{cases_lt}
 
 -- the lumps of 1 at a date
 abbrev pub ones_at : List ℕ → ℕ → List Lump
@@ -101,7 +101,7 @@ map-list_of f (suc n) p = ap (λ xs. f (p 0) ∷ xs) (map-list_of f n (λ i. p (
 -- the dates k e below until are those of the first places
 below_until : (until e k : ℕ) → 1 ≤ e → k < div_ceil until e → k * e < until
 below_until until e k some h =
-    elim (below_or_not k (until / e)) [
+    elim (cases_lt k (until / e)) [
       | inl below ↦
           let next : suc k ≤ until / e = omega arith in
           omega (arith, mul-le-mul_right e next, mul_comm e (until / e), div-add-mod until e)
@@ -113,10 +113,10 @@ below_until until e k some h =
 
 place_of : (until e k : ℕ) → 1 ≤ e → k * e < until → k < div_ceil until e
 place_of until e k some h =
-    elim (below_or_not k (until / e)) [
+    elim (cases_lt k (until / e)) [
       | inl below ↦ omega arith
       | inr upto ↦
-          elim (below_or_not k (suc (until / e))) [
+          elim (cases_lt k (suc (until / e))) [
             | inl same ↦
                 let last : k ≡ until / e = omega arith in
                 let more : 1 ≤ until % e =

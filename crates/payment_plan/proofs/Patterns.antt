@@ -5,6 +5,7 @@ use Rattle.std.specs.Prelude.{All, map, unsigned_abs, nat_lt, nat_le, ◌==◌, 
 use Rattle.std.proofs.Math.Nat.{mul-zero, pow-zero}
 use Rattle.std.proofs.lemmas.Bool.Decides.{eqb_tells, nat_tests}
 use Rattle.std.proofs.lemmas.List.Elements.{All-replicate}
+use Rattle.named_numbers.specs.Numbers.{most_amount, most_coefficient, bernstein_unit}
 use Rattle.model_specs.specs.Product.{Step, PremiumPattern}
 use Rattle.model_specs.specs.Payments.{constant_step, continuous_pattern, sojourn_at, step_at}
 use Rattle.model_specs.specs.RecordRules.{IsBoundedStep}
@@ -100,7 +101,7 @@ six_within n l h =
     All-replicate (λ b. unsigned_abs b ≤ l) 6 n h
 
 unit_coefficients : (b : Bool) (s i : ℕ) → i < 4
-    → unsigned_abs (get_or (unit_amount b ∷ pos 0 ∷ pos 0 ∷ pos 0 ∷ []) i (pos 0)) * s ^ i ≤ 10 ^ 22
+    → unsigned_abs (get_or (unit_amount b ∷ pos 0 ∷ pos 0 ∷ pos 0 ∷ []) i (pos 0)) * s ^ i ≤ most_coefficient
 unit_coefficients true s zero below = omega (arith, pow-zero s)
 unit_coefficients false s zero below = omega arith
 unit_coefficients b s (suc zero) below = omega arith
@@ -109,13 +110,14 @@ unit_coefficients b s (suc (suc (suc zero))) below = omega arith
 unit_coefficients b s (suc (suc (suc (suc i)))) below = absurd (omega arith)
 
 unit_amounts : (b : Bool) (k : ℕ)
-    → All (λ n. unsigned_abs n ≤ 10 ^ 12 * 2488320) (bernstein_numerators (constant_step 0 (unit_amount b)).c k)
+    → All (λ n. unsigned_abs n ≤ most_amount * bernstein_unit)
+    (bernstein_numerators (constant_step 0 (unit_amount b)).c k)
 unit_amounts true k =
-    subst (All (λ n. unsigned_abs n ≤ 10 ^ 12 * 2488320)) (sym (one_numerators k))
-    (six_within (pos 2488320) (10 ^ 12 * 2488320) (omega arith))
+    subst (All (λ n. unsigned_abs n ≤ most_amount * bernstein_unit)) (sym (one_numerators k))
+    (six_within (pos 2488320) (most_amount * bernstein_unit) (omega arith))
 unit_amounts false k =
-    subst (All (λ n. unsigned_abs n ≤ 10 ^ 12 * 2488320)) (sym (no_numerators k))
-    (six_within (pos 0) (10 ^ 12 * 2488320) (omega arith))
+    subst (All (λ n. unsigned_abs n ≤ most_amount * bernstein_unit)) (sym (no_numerators k))
+    (six_within (pos 0) (most_amount * bernstein_unit) (omega arith))
 
 pub unit_bounded : (b : Bool) (s : ℕ) → IsBoundedStep (constant_step 0 (unit_amount b)).c s
 unit_bounded b s =

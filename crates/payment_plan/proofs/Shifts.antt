@@ -1,5 +1,5 @@
 -- Shifts of polynomials with zeros behind them, and the amount in a cell.
-use Rattle.std.proofs.Common.{◌≡◌, ℕ, zero, suc, ◌^◌, ℤ, pos, negsuc, List, [], ◌∷◌, ◌++◌, length, get_or}
+use Rattle.std.proofs.Common.{◌≡◌, ℕ, zero, suc, ◌^◌, ℤ, pos, negsuc, ◌*ℤ◌, List, [], ◌∷◌, ◌++◌, length, get_or}
 use Rattle.std.proofs.Common.{take, arith, refl, ap, sym, subst, ◌∙◌}
 use mathlib.Core.Path.{ap₂}
 use Rattle.std.proofs.Math.Seq.{take-append_seam}
@@ -8,11 +8,13 @@ use Rattle.frac_laws.specs.Lists.{add_lists, scale_list}
 use Rattle.frac_laws.specs.Polynomials.{all_over, shifted, stretched, reflected, times_linear}
 use Rattle.frac_laws.proofs.FractionTerms.{ring, terms}
 use Rattle.frac_laws.proofs.Quotients.{over_is}
+use Rattle.named_numbers.specs.Numbers.{cells_of_year}
 use Rattle.frac_laws.proofs.Polynomials.{shifted-stretched, stretched-stretched, length-shifted}
 use Rattle.poly_small.proofs.Sixes.{over-zero}
 use Rattle.poly_small.proofs.Units.{in_units-stretched}
 use Rattle.poly_small.specs.WholePolynomials.{in_units_of}
-use Rattle.payment_plan.proofs.FourCoefficients.{four_are_all, padded}
+use Rattle.curve_pieces.proofs.FourCoefficients.{four_are_all, padded}
+use Rattle.curve_pieces.proofs.Cells.{cells_in_years}
 
 -- a zero as the last coefficient
 abbrev pub none : List Fraction
@@ -76,52 +78,65 @@ first_shifted b p =
     regroup [] = refl
     regroup (x ∷ xs) = ap (λ z. x ∷ z) (regroup xs)
 
+-- the four products with powers of the cells of a year
+pub record ProductsAre (p : List ℤ) (r0 r1 r2 r3 : ℤ) : Type 0 where
+  pub first : r0 ≡ get_or p 0 (pos 0) *ℤ pos (cells_of_year ^ 3)
+  pub second : r1 ≡ get_or p 1 (pos 0) *ℤ pos (cells_of_year ^ 2)
+  pub third : r2 ≡ get_or p 2 (pos 0) *ℤ pos (cells_of_year ^ 1)
+  pub fourth : r3 ≡ get_or p 3 (pos 0) *ℤ pos (cells_of_year ^ 0)
+
+pub products_are_in_cells : (p : List ℤ) (r0 r1 r2 r3 : ℤ) → length p ≡ 4 → ProductsAre p r0 r1 r2 r3
+    → r0 ∷ r1 ∷ r2 ∷ r3 ∷ pos 0 ∷ pos 0 ∷ [] ≡ padded (in_units_of cells_of_year p)
+products_are_in_cells p r0 r1 r2 r3 h given =
+    let P : List ℤ → Type 0 =
+    λ q. r0 ∷ r1 ∷ r2 ∷ r3 ∷ pos 0 ∷ pos 0 ∷ [] ≡ padded (in_units_of cells_of_year q) in
+    subst P (sym (four_are_all p h)) (rw (given.first, given.second, given.third, given.fourth) refl)
+
 -- a payment in cells
 in_cells : (p : List ℤ) → length p ≡ 4
-    → all_over (384 ^ 3) (in_units_of 384 p) ≡ stretched (over (pos 1) 384) (all_over 1 p)
+    → all_over (cells_of_year ^ 3) (in_units_of cells_of_year p) ≡ stretched (over (pos 1) cells_of_year) (all_over 1 p)
 in_cells p h =
     let P : List ℤ → Type 0 =
-    λ q. all_over (384 ^ 3) (in_units_of 384 q) ≡ stretched (over (pos 1) 384) (all_over 1 q) in
+    λ q. all_over (cells_of_year ^ 3) (in_units_of cells_of_year q)
+    ≡ stretched (over (pos 1) cells_of_year) (all_over 1 q) in
     subst P (sym (four_are_all p h)) (in_units-stretched (get_or p 0 (pos 0))
-    (get_or p 1 (pos 0) ∷ get_or p 2 (pos 0) ∷ get_or p 3 (pos 0) ∷ []) 1 384 (omega arith) (omega arith))
-
--- so many cells are that many 384ths of a year
-cells_in_years : (n : ℤ) → over (pos 1) 384 *ℚ whole n ≡ over n 384
-cells_in_years n = ring (whole n ∷ over (pos 1) 384 ∷ []) (hlevel terms) refl ∙ sym (over_is n 384)
+    (get_or p 1 (pos 0) ∷ get_or p 2 (pos 0) ∷ get_or p 3 (pos 0) ∷ []) 1 cells_of_year (omega arith) (omega arith))
 
 -- the numbers of a cell: the coefficients c of a step, in cells, shifted to the cell's end and turned
 pub record IsCell (c r n : List ℤ) (origin : ℕ) : Type 0 where
   pub four : length c ≡ 4
-  pub shift : all_over (384 ^ 3) r ≡ shifted (whole (pos origin)) (all_over (384 ^ 3) (padded (in_units_of 384 c)))
-  pub turn : all_over (384 ^ 3) n ≡ reflected (all_over (384 ^ 3) r)
+  pub shift : all_over (cells_of_year ^ 3) r
+      ≡ shifted (whole (pos origin)) (all_over (cells_of_year ^ 3) (padded (in_units_of cells_of_year c)))
+  pub turn : all_over (cells_of_year ^ 3) n ≡ reflected (all_over (cells_of_year ^ 3) r)
 
 length-in_units : (u : ℕ) (p : List ℤ) → length (in_units_of u p) ≡ length p
 length-in_units u [] = refl
 length-in_units u (c ∷ p) = ap suc (length-in_units u p)
 
 first_four : (c : List ℤ) (origin : ℕ) → length c ≡ 4
-    → take 4 (shifted (whole (pos origin)) (all_over (384 ^ 3) (padded (in_units_of 384 c))))
-    ≡ shifted (whole (pos origin)) (stretched (over (pos 1) 384) (all_over 1 c))
+    → take 4 (shifted (whole (pos origin)) (all_over (cells_of_year ^ 3) (padded (in_units_of cells_of_year c))))
+    ≡ shifted (whole (pos origin)) (stretched (over (pos 1) cells_of_year) (all_over 1 c))
 first_four c origin h =
-    let q = all_over (384 ^ 3) (in_units_of 384 c) in
-    let four : length (all_over (384 ^ 3) (in_units_of 384 c)) ≡ 4 =
-    length-all_over (384 ^ 3) (in_units_of 384 c) ∙ length-in_units 384 c ∙ h in
-    ap (λ p. take 4 (shifted (whole (pos origin)) p)) (all_over-padded (384 ^ 3) (in_units_of 384 c))
+    let q = all_over (cells_of_year ^ 3) (in_units_of cells_of_year c) in
+    let four : length (all_over (cells_of_year ^ 3) (in_units_of cells_of_year c)) ≡ 4 =
+    length-all_over (cells_of_year ^ 3) (in_units_of cells_of_year c) ∙ length-in_units cells_of_year c ∙ h in
+    ap (λ p. take 4 (shifted (whole (pos origin)) p))
+    (all_over-padded (cells_of_year ^ 3) (in_units_of cells_of_year c))
     ∙ ap (λ n. take n (shifted (whole (pos origin)) (q ++ none ++ none))) (sym four)
     ∙ first_shifted (whole (pos origin)) q
     ∙ ap (shifted (whole (pos origin))) (in_cells c h)
 
 pub cell_is_amount : (c r n : List ℤ) (origin : ℕ) → IsCell c r n origin
-    → all_over (384 ^ 3) (take 4 n)
-    ≡ stretched (over (negsuc 0) 384) (shifted (over (pos origin) 384) (all_over 1 c))
+    → all_over (cells_of_year ^ 3) (take 4 n)
+    ≡ stretched (over (negsuc 0) cells_of_year) (shifted (over (pos origin) cells_of_year) (all_over 1 c))
 cell_is_amount c r n origin is =
-    sym (all_over-take (384 ^ 3) 4 n)
+    sym (all_over-take (cells_of_year ^ 3) 4 n)
     ∙ ap (take 4) (is.turn ∙ ap reflected is.shift)
     ∙ stretched-take (whole (negsuc 0)) 4
-    (shifted (whole (pos origin)) (all_over (384 ^ 3) (padded (in_units_of 384 c))))
+    (shifted (whole (pos origin)) (all_over (cells_of_year ^ 3) (padded (in_units_of cells_of_year c))))
     ∙ ap reflected (first_four c origin is.four
-    ∙ shifted-stretched (whole (pos origin)) (over (pos 1) 384) (all_over 1 c))
-    ∙ stretched-stretched (whole (negsuc 0)) (over (pos 1) 384)
-    (shifted (over (pos 1) 384 *ℚ whole (pos origin)) (all_over 1 c))
+    ∙ shifted-stretched (whole (pos origin)) (over (pos 1) cells_of_year) (all_over 1 c))
+    ∙ stretched-stretched (whole (negsuc 0)) (over (pos 1) cells_of_year)
+    (shifted (over (pos 1) cells_of_year *ℚ whole (pos origin)) (all_over 1 c))
     ∙ ap₂ (λ h b. stretched h (shifted b (all_over 1 c)))
-    (sym (over_is (negsuc 0) 384)) (cells_in_years (pos origin))
+    (sym (over_is (negsuc 0) cells_of_year)) (cells_in_years (pos origin))

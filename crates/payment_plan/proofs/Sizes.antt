@@ -1,104 +1,58 @@
--- Rule 11 bounds the numbers that a cell or a month forms.
-use Rattle.std.proofs.Common.{◌≡◌, ℕ, zero, suc, ◌+◌, ◌*◌, ◌^◌, ◌<◌, ◌≤◌, ℤ, pos, List, [], ◌∷◌, length, get_or, max}
-use Rattle.std.proofs.Common.{◌-◌, ◌<◌, take, arith, ap, sym, ◌∙◌}
+-- The rule on the size of a step bounds the numbers that a cell or a month of it forms.
+use Rattle.std.proofs.Common.{◌≡◌, ℕ, zero, suc, ◌+◌, ◌*◌, ◌^◌, ◌<◌, ◌≤◌, ℤ, List, [], ◌∷◌, length, max}
+use Rattle.std.proofs.Common.{◌-◌, take, arith, ap}
 use Rattle.std.specs.Prelude.{unsigned_abs}
-use Rattle.std.proofs.Math.Nat.{mul_assoc, mul_comm, mul-le-mul_left, mul-le-mul_right, pow-zero, pow-suc}
-use Rattle.std.proofs.lemmas.Int.{unsigned_abs-mul}
+use Rattle.named_numbers.specs.Numbers.{months_of_year, cells_of_month, cells_of_year}
 use Rattle.model_specs.specs.RecordRules.{IsBounded, IsBoundedStep}
 use Rattle.payment_plan.specs.declared.step.StepAmount.{StepAmount}
 use Rattle.poly_small.specs.WholePolynomials.{value_of_sizes, in_units_of}
 use Rattle.poly_small.proofs.Values.{value_of_sizes-grows}
-use Rattle.payment_plan.proofs.FourCoefficients.{padded, length-padded, padded_bounded, value_of_sizes-padded}
-use Rattle.payment_plan.proofs.FourCoefficients.{value_of_sizes-take}
+use Rattle.curve_pieces.proofs.FourCoefficients.{padded, length-padded, padded_bounded}
+use Rattle.curve_pieces.proofs.Sizes.{bounded_sizes, month_fits}
 
--- u^(n-1) + a u^(n-2) + .. + a^(n-1)
-abbrev pub geometric : ℕ → ℕ → ℕ → ℕ
-geometric a u zero = 0
-geometric a u (suc n) = u ^ n + a * geometric a u n
+-- zeros add nothing to a value of sizes
+value_of_sizes-padded : (p : List ℤ) (x : ℕ) → value_of_sizes (padded p) x ≡ value_of_sizes p x
+value_of_sizes-padded [] x = omega arith
+value_of_sizes-padded (c ∷ p) x = ap (λ z. unsigned_abs c + x * z) (value_of_sizes-padded p x)
 
-moved : (t a s v : ℕ) → t * (a * s * v) ≡ a * (t * s * v)
-moved t a s v =
-    ap (λ z. t * z) (mul_assoc a s v) ∙ sym (mul_assoc t a (s * v)) ∙ ap (λ z. z * (s * v)) (mul_comm t a)
-    ∙ mul_assoc a t (s * v) ∙ ap (λ z. a * z) (sym (mul_assoc t s v))
-
-split : (t c w x : ℕ) → t * (c * w + x) ≡ c * t * w + t * x
-split t c w x = omega (arith, ap (λ z. z * w) (mul_comm t c), mul_assoc t c w)
-
-within_part : (t n l w : ℕ) → n * t ≤ l → n * t * w ≤ l * w
-within_part t n l w h = mul-le-mul_right w h
-
-within_rest : (a x l g : ℕ) → x ≤ l * g → a * x ≤ l * (a * g)
-within_rest a x l g h = omega (arith, mul-le-mul_left a h, factors)
+-- nor do the first four of six have a greater value than all
+value_of_sizes-take : (p : List ℤ) (n x : ℕ) → value_of_sizes (take n p) x ≤ value_of_sizes p x
+value_of_sizes-take [] zero x = omega arith
+value_of_sizes-take [] (suc n) x = omega arith
+value_of_sizes-take (c ∷ p) zero x = omega arith
+value_of_sizes-take (c ∷ p) (suc n) x = grows (unsigned_abs c) _ _ x (value_of_sizes-take p n x)
   where
-    factors : a * (l * g) ≡ l * (a * g)
-    factors = sym (mul_assoc a l g) ∙ ap (λ z. z * g) (mul_comm a l) ∙ mul_assoc l a g
-
--- coefficients with |p_i| s^(j + i) at most l
-sizes_within : (p : List ℤ) (s u a l j : ℕ)
-    → ((i : ℕ) → i < length p → unsigned_abs (get_or p i (pos 0)) * s ^ (j + i) ≤ l)
-    → s ^ j * value_of_sizes (in_units_of u p) (a * s) ≤ l * geometric a u (length p)
-sizes_within [] s u a l j h = omega arith
-sizes_within (c ∷ p) s u a l j h =
-    let v = value_of_sizes (in_units_of u p) (a * s) in
-    let w = u ^ length p in
-    let rest = sizes_within p s u a l (suc j) (λ i below. later i below) in
-    let same : j + 0 ≡ j = omega arith in
-    let first : unsigned_abs c * s ^ j ≤ l = rw same at (h 0 (omega arith)) in
-    omega (
-      arith,
-      ap (λ z. s ^ j * (z + a * s * v)) (unsigned_abs-mul c (pos w)),
-      split (s ^ j) (unsigned_abs c) w (a * s * v),
-      moved (s ^ j) a s v,
-      within_part (s ^ j) (unsigned_abs c) l w first,
-      within_rest a (s ^ j * s * v) l (geometric a u (length p)) (rw pow-suc at rest),
-    )
-  where
-    later : (i : ℕ) → i < length p → unsigned_abs (get_or p i (pos 0)) * s ^ (suc j + i) ≤ l
-    later i below =
-        let same : j + suc i ≡ suc j + i = omega arith in
-        rw same at (h (suc i) (omega arith))
-
-bounded_sizes : (p : List ℤ) (s u a n : ℕ) → length p ≡ n → IsBounded p s
-    → value_of_sizes (in_units_of u p) (a * s) ≤ 10 ^ 22 * geometric a u n
-bounded_sizes p s u a n long bounded =
-    let within = sizes_within p s u a (10 ^ 22) 0 (λ i below. at_place i below) in
-    omega (arith, rw (pow-zero s, long) at within)
-  where
-    at_place : (i : ℕ) → i < length p → unsigned_abs (get_or p i (pos 0)) * s ^ (0 + i) ≤ 10 ^ 22
-    at_place i below = let same : 0 + i ≡ i = omega arith in rw same (bounded i below)
+    grows : (a v w x : ℕ) → v ≤ w → a + x * v ≤ a + x * w
+    grows a v w x h = grind arith
 
 -- in cells: from a step's start to the end of its month k there are 32 (k + 1) cells
-cell_sizes : (p : List ℤ) (k x : ℕ) → length p ≡ 4 → IsBounded p (k + 1) → x ≤ 32 * (k + 1)
-    → 32 * value_of_sizes (padded (in_units_of 384 p)) x < 2 ^ 104
+cell_sizes : (p : List ℤ) (k x : ℕ) → length p ≡ 4 → IsBounded p (k + 1) → x ≤ cells_of_month * (k + 1)
+    → 32 * value_of_sizes (padded (in_units_of cells_of_year p)) x < 2 ^ 104
 cell_sizes p k x four bounded within =
     omega (
       arith,
-      bounded_sizes p (k + 1) 384 32 4 four bounded,
-      value_of_sizes-grows (in_units_of 384 p) x (32 * (k + 1)) within,
-      value_of_sizes-padded (in_units_of 384 p) x,
+      bounded_sizes p (k + 1) cells_of_year cells_of_month 4 four bounded,
+      value_of_sizes-grows (in_units_of cells_of_year p) x (cells_of_month * (k + 1)) within,
+      value_of_sizes-padded (in_units_of cells_of_year p) x,
     )
 
--- in months
-pub month_fits : (p : List ℤ) (k : ℕ) → length p ≡ 4 → IsBounded p (k + 1)
-    → 320 * value_of_sizes (in_units_of 12 (padded p)) (max k 1) < 2 ^ 126
-month_fits p k four bounded =
-    omega (
-      arith,
-      bounded_sizes (padded p) (k + 1) 12 1 6 (length-padded p four) (padded_bounded p (k + 1) four bounded),
-      value_of_sizes-grows (in_units_of 12 (padded p)) (max k 1) (1 * (k + 1)) (omega arith),
-    )
+-- in months, as any polynomial of six bounded coefficients
+pub payment_month_fits : (p : List ℤ) (k : ℕ) → length p ≡ 4 → IsBounded p (k + 1)
+    → 320 * value_of_sizes (in_units_of months_of_year (padded p)) (max k 1) < 2 ^ 126
+payment_month_fits p k four bounded =
+    omega (arith, month_fits (padded p) k (length-padded p four) (padded_bounded p (k + 1) bounded))
 
 -- the numbers of a cell: the coefficients c of a step, in cells, shifted to the cell's end
 pub record FormsCell (c q : List ℤ) (k origin : ℕ) : Type 0 where
   pub four : length c ≡ 4
   pub bounded : IsBounded c (k + 1)
-  pub origin_within : origin ≤ 32 * (k + 1)
-  pub units : q ≡ padded (in_units_of 384 c)
+  pub origin_within : origin ≤ cells_of_month * (k + 1)
+  pub units : q ≡ padded (in_units_of cells_of_year c)
 
 -- those of a step in a cell of a month
 pub forms_of : (s : StepAmount) (q : List ℤ) (month cell : ℕ) → length s.c ≡ 4
-    → IsBoundedStep s.c (month - s.from + 1) → cell < 32 → q ≡ padded (in_units_of 384 s.c)
-    → FormsCell s.c q (month - s.from) ((month - s.from) * 32 + cell + 1)
+    → IsBoundedStep s.c (month - s.from + 1) → cell < cells_of_month → q ≡ padded (in_units_of cells_of_year s.c)
+    → FormsCell s.c q (month - s.from) ((month - s.from) * cells_of_month + cell + 1)
 forms_of s q month cell four bounded within units =
     record {
       four = four;

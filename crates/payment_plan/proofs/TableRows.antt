@@ -18,7 +18,7 @@ use Rattle.payment_plan.specs.declared.lump.Lump.{Lump}
 use Rattle.payment_plan.specs.Records.{lumps_of}
 use Rattle.payment_plan.specs.Tables.{with_state, amount_at, row_upto, row_at, dated_lumps, lists_of}
 use Rattle.payment_plan.specs.Tables.{is_payer, payer_at, payers_in_order}
-use Rattle.payment_plan.proofs.Starts.{below_or_not}
+use Rattle.std.proofs.lemmas.Bool.{cases_lt}
 use Rattle.payment_plan.proofs.Places.{places-agree, places-more, list_of-more}
 
 next_row : (s m n : ℕ) → m < n → m * s + s ≤ n * s
@@ -27,9 +27,9 @@ next_row s m n h = let row : suc m ≤ n = omega arith in omega (arith, mul-le-m
 -- the place of a date and a state is that of no other ones
 pub one_place : (s m i n j : ℕ) → i < s → j < s → m * s + i ≡ n * s + j → (m ≡ n) × (i ≡ j)
 one_place s m i n j below other same =
-    elim (below_or_not m n) [
+    elim (cases_lt m n) [
       | inl before ↦ absurd (omega (arith, next_row s m n before))
-      | inr upto ↦ elim (below_or_not n m) [
+      | inr upto ↦ elim (cases_lt n m) [
         | inl after ↦ absurd (omega (arith, next_row s n m after))
         | inr both ↦ let equal : m ≡ n = omega arith in
             let P : ℕ → Type 0 = λ k. m * s + i ≡ k * s + j in

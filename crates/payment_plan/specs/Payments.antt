@@ -1,5 +1,6 @@
 -- What contracts see of a payment plan.
-use Rattle.std.specs.Prelude.{◌≡◌, ℕ, ◌<◌, ◌≤◌, ◌^◌, ◌==◌, if◌then◌else◌, List, [], length, map, All, unsigned_abs}
+use Rattle.std.specs.Prelude.{◌≡◌, ℕ, ◌<◌, ◌≤◌, ◌==◌, if◌then◌else◌, List, [], length, map, All, unsigned_abs}
+use Rattle.named_numbers.specs.Numbers.{most_months, most_states, most_lump, most_every}
 use Rattle.model_specs.specs.Product.{Step, Sojourn, Lump, PremiumPattern}
 use Rattle.model_specs.specs.Payments.{Plan, continuous_pattern, dated_pattern}
 use Rattle.model_specs.specs.RecordRules.{AreDistinct, IsPayment, IsBoundedPayment}
@@ -43,7 +44,7 @@ pub record HasGoodPayments (p : Payments) : Type 0 where
 pub record HasGoodLumps (p : Payments) : Type 0 where
   pub dates : All (λ l. l.month ≤ p.months) p.lumps
   pub states : All (λ l. l.state < p.states) p.lumps
-  pub amounts : All (λ l. unsigned_abs l.amount ≤ 10 ^ 12) p.lumps
+  pub amounts : All (λ l. unsigned_abs l.amount ≤ most_lump) p.lumps
   pub distinct : AreDistinct {A = ℕ × ℕ} (0, 0) (map (λ l. (l.month, l.state)) p.lumps)
 
 -- rules 13 and 14: the payers are states and differ; a pattern that pays ends within the term, at a date above 0, and
@@ -53,16 +54,16 @@ pub record HasGoodPattern (p : Payments) : Type 0 where
   pub distinct : AreDistinct 0 p.pattern.payers
   pub until_above_0 : 1 ≤ length p.pattern.payers → 1 ≤ p.pattern.until
   pub until_within : p.pattern.until ≤ p.months
-  pub every : p.pattern.every ≤ 1200
+  pub every : p.pattern.every ≤ most_every
   pub never_until : p.pattern.payers ≡ [] → p.pattern.until ≡ 0
   pub never_every : p.pattern.payers ≡ [] → p.pattern.every ≡ 0
 
 -- 1 to 12 states, a term of 1 to 1200 months, and rules 10 to 14
 pub record IsAllowed (p : Payments) : Type 0 where
   pub some_state : 1 ≤ p.states
-  pub most_states : p.states ≤ 12
+  pub most_states : p.states ≤ most_states
   pub some_month : 1 ≤ p.months
-  pub most_months : p.months ≤ 1200
+  pub most_months : p.months ≤ most_months
   pub payments : HasGoodPayments p
   pub lumps : HasGoodLumps p
   pub pattern : HasGoodPattern p

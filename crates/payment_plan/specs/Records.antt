@@ -1,6 +1,7 @@
 -- Payments as the plain records of a product.
 use Rattle.std.specs.Prelude.{ℕ, List, map, Vec}
 use Rattle.std.specs.declared.alloc.Global.{Global}
+use Rattle.model_specs.specs.Curve.{Piece}
 use Rattle.model_specs.specs.Product as model
 use Rattle.model_specs.specs.RecordRules.{step_starts}
 use Rattle.payment_plan.specs.declared.step.StepAmount.{StepAmount}
@@ -11,6 +12,10 @@ use Rattle.payment_plan.specs.Payments.{Payments}
 -- a step as a plain record
 abbrev pub record_of : StepAmount → model.Step
 record_of s = record { from = s.from; c = s.c }
+
+-- a step as a piece of four coefficients
+abbrev pub piece_of : StepAmount → Piece
+piece_of s = record { from = s.from; c = s.c }
 
 -- the steps as plain records
 abbrev pub steps_of : List StepAmount → List model.Step

@@ -1,6 +1,7 @@
 //! The lumps of each date, in order of states.
 
 ghost use Rattle.std.specs.Prelude.{◌≡◌, ℕ, suc, ◌+◌, ◌*◌, ◌<◌, ◌≤◌, All, None, IfOk, [], length, slice_index_or};
+ghost use Rattle.named_numbers.specs.Numbers.{most_months, most_states};
 ghost use Rattle.model_specs.specs.Whole.{list_of};
 ghost use Rattle.payment_plan.specs.Records.{lumps_of};
 ghost use Rattle.payment_plan.specs.Tables.{amount_at, row_of, row_at, dated_lumps, lists_of, payers_in_order};
@@ -10,7 +11,7 @@ use std::alloc::{AllocError, Global};
 
 // The place of a date and a state in a table of all dates and states.
 fn place(states: usize, month: u32, state: usize) -> usize
-    requires states { states ≤ 12 }
+    requires states { states ≤ most_states }
     requires state { state < states }
     ensures { result ≡ month * states + state }
 {
@@ -19,7 +20,7 @@ fn place(states: usize, month: u32, state: usize) -> usize
 
 // Writes each lump's amount at its place. Of two lumps of one place the first one stays.
 fn write(table: &mut [Option<i64>], states: usize, lumps: &[Lump])
-    requires most_states { states ≤ 12 }
+    requires most_states { states ≤ most_states }
     requires states { All (λ l. l.state < states) lumps.now }
     requires dates { All (λ l. l.month * states + l.state < length table.old) lumps.now }
     requires empty { All (λ amount. amount ≡ None) table.old }
@@ -53,8 +54,8 @@ fn rows(
     dates: usize,
 ) -> Result<Vec<Vec<(usize, i64)>>, AllocError>
     requires long { length table.now ≡ dates * states }
-    requires states { states ≤ 12 }
-    requires dates { dates ≤ 1201 }
+    requires states { states ≤ most_states }
+    requires dates { dates ≤ most_months + 1 }
     ensures { IfOk result (λ dated. lists_of dated.items ≡ list_of dates (row_at table.now states)) }
 {
     let mut dated = Vec::new(alloc);
@@ -72,8 +73,8 @@ pub(crate) fn lumps_by_date(
     months: u32,
     lumps: &[Lump],
 ) -> Result<Vec<Vec<(usize, i64)>>, AllocError>
-    requires most_states { states ≤ 12 }
-    requires most_months { months ≤ 1200 }
+    requires most_states { states ≤ most_states }
+    requires most_months { months ≤ most_months }
     requires states { All (λ l. l.state < states) lumps.now }
     requires dates { All (λ l. l.month ≤ months) lumps.now }
     ensures { IfOk result (λ dated. lists_of dated.items
@@ -91,7 +92,7 @@ pub(crate) fn payer_lumps(
     states: usize,
     payers: &[usize],
 ) -> Result<Vec<(usize, i64)>, AllocError>
-    requires { states ≤ 12 }
+    requires { states ≤ most_states }
     ensures { IfOk result (λ lumps. lumps.items ≡ payers_in_order states payers.now) }
 {
     let mut lumps = Vec::new(alloc);

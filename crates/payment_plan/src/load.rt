@@ -1,6 +1,7 @@
 //! Loads: how much a payment weighs in a month.
 
-ghost use Rattle.std.specs.Prelude.{◌≡◌, ◌+◌, ◌-◌, ◌*◌, ◌^◌, ◌<◌, ◌≤◌, pos, ◌-ℤ◌, map, unsigned_abs};
+ghost use Rattle.std.specs.Prelude.{◌≡◌, ◌+◌, ◌-◌, ◌*◌, ◌<◌, ◌≤◌, pos, ◌-ℤ◌, map, unsigned_abs};
+ghost use Rattle.named_numbers.specs.Numbers.{most_months, most_amount};
 ghost use Rattle.model_specs.specs.Whole.{greatest_natural, greatest_whole, least_whole, natural_part};
 ghost use Rattle.model_specs.specs.Growth.{load};
 ghost use Rattle.model_specs.specs.RecordRules.{IsBoundedStep};
@@ -8,9 +9,7 @@ ghost use Rattle.payment_plan.specs.Records.{record_of};
 ghost use Rattle.payment_plan.specs.Loads.{AreWithin, load_of_numerators};
 
 use crate::step::StepAmount;
-
-// Bernstein coefficients of a month are over 10 * 12^5.
-const UNIT: u128 = 2_488_320;
+use named_numbers::BERNSTEIN_UNIT;
 
 // The greatest size of six numbers.
 fn greatest_size(numbers: &[i128; 6]) -> u128
@@ -48,20 +47,20 @@ fn spread(numbers: &[i128; 6]) -> u128
 fn load_of(numbers: &[i128; 6]) -> i128
     requires { AreWithin numbers.now }
     ensures value { result ≡ pos (load_of_numerators numbers.now) }
-    ensures most { load_of_numerators numbers.now ≤ 9 * 10 ^ 12 }
+    ensures most { load_of_numerators numbers.now ≤ 9 * most_amount }
 {
     let weight = greatest_size(numbers) + 4 * spread(numbers);
-    weight.div_ceil(UNIT) as i128
+    weight.div_ceil(BERNSTEIN_UNIT) as i128
 }
 
 /// The load of a step in a month, in minor units (per year, for a sojourn): the greatest size of the Bernstein
 /// coefficients of its amount there and four times their spread, rounded up. Takes no memory.
 pub fn amount_load(s: &StepAmount, month: u32) -> i128
     requires started { s.now.from ≤ month }
-    requires term { month < 1200 }
+    requires term { month < most_months }
     requires bounded { IsBoundedStep s.now.c (month - s.now.from + 1) }
     ensures value { result ≡ pos (load (record_of s.now) month) }
-    ensures most { load (record_of s.now) month ≤ 9 * 10 ^ 12 }
+    ensures most { load (record_of s.now) month ≤ 9 * most_amount }
 {
     let numerators = s.in_years().month_bernstein(month - s.from);
     load_of(&numerators)

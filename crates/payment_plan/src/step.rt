@@ -1,10 +1,11 @@
 //! Steps of a payment.
 
-ghost use Rattle.std.specs.Prelude.{◌≡◌, ℕ, ◌+◌, ◌<◌, ◌≤◌, pos, [], ◌∷◌, ◌++◌, length, slice_index};
+ghost use Rattle.std.specs.Prelude.{◌≡◌, ℕ, ◌<◌, ◌≤◌, pos, [], ◌∷◌, ◌++◌, slice_index};
 ghost use Rattle.model_specs.specs.Payments.{constant_step};
-ghost use Rattle.payment_plan.specs.Records.{record_of, steps_of, starts_of};
+ghost use Rattle.payment_plan.specs.Records.{record_of, piece_of, steps_of, starts_of};
 ghost use Rattle.payment_plan.specs.Steps.{HasGoodSteps, CoversMonth};
 
+use curve_pieces::{Starts, last_start};
 use poly_small::Poly;
 
 /// From month `from` on, up to the next step or to the term, `c[0] + c[1] t + c[2] t^2 + c[3] t^3` minor units (per
@@ -14,6 +15,14 @@ use poly_small::Poly;
 pub struct StepAmount {
     pub from: u32,
     pub c: [i64; 4],
+}
+
+impl Starts for StepAmount {
+    ghost as_piece = { piece_of };
+
+    fn start(&self) -> u32 {
+        self.from
+    }
 }
 
 impl StepAmount {
@@ -43,35 +52,6 @@ impl StepAmount {
             ],
         }
     }
-}
-
-// The month at which a step starts.
-fn start(steps: &[StepAmount], i: usize) -> u32
-    requires { i < length steps.now }
-    ensures { result ≡ slice_index (starts_of steps.now) i }
-{
-    steps[i].from
-}
-
-// The place of the last step that starts at or before a month, by halving.
-fn last_start(steps: &[StepAmount], month: u32) -> usize
-    requires some { 0 < length steps.now }
-    requires first { slice_index (starts_of steps.now) 0 ≤ month }
-    ensures inside { result < length steps.now }
-    ensures started { slice_index (starts_of steps.now) result ≤ month }
-    ensures next { result + 1 < length steps.now → month < slice_index (starts_of steps.now) (result + 1) }
-{
-    let mut low = 0;
-    let mut high = steps.len();
-    while high - low > 1 {
-        let middle = low + (high - low) / 2;
-        if start(steps, middle) <= month {
-            low = middle;
-        } else {
-            high = middle;
-        }
-    }
-    low
 }
 
 // The step that covers a month, and one from month 0 on that pays nothing where there is no step.

@@ -1,7 +1,8 @@
 use Rattle.std.proofs.Common.{◌≡◌, ℕ, ◌<◌, length, true, arith, sym, subst}
-use Rattle.curve_pieces.specs.Records.{records_of, starts_of}
+use Rattle.curve_pieces.specs.Records.{record_of, records_of, starts_of}
 use Rattle.curve_pieces.specs.BrokenRules.{IsBoundedAt, IsFirstBroken}
-use Rattle.curve_pieces.proofs.Starts.{length-starts, place_below}
+use Rattle.curve_pieces.proofs.ItemStarts.{length-starts}
+use Rattle.curve_pieces.proofs.OrderedStarts.{place_below}
 use Rattle.curve_pieces.proofs.rules.first_unbounded.Goals as goal
 
 pub returns-then-not-is_bounded_at-clause-some : goal.returns-then-not-is_bounded_at-clause-some
@@ -16,7 +17,7 @@ returns-then-not-is_bounded_at-clause-some c =
 pub overflow_add-index : goal.overflow_add-index
 overflow_add-index c =
     let inside : c.loop-i.i < length (starts_of c.args.pieces.now) =
-    omega (arith, length-starts c.args.pieces.now, c.loop-i-test.true) in
+    omega (arith, length-starts record_of c.args.pieces.now, c.loop-i-test.true) in
     omega (
       arith,
       place_below (starts_of c.args.pieces.now) c.args.months c.loop-i.i (λ k below. c.requires.in_order k) inside,

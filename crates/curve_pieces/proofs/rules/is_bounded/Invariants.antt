@@ -1,9 +1,10 @@
 use Rattle.std.proofs.Common.{◌≡◌, ℕ, ◌*◌, ◌^◌, ◌<◌, ◌≤◌, pos, get_or}
 use Rattle.std.specs.Prelude.{unsigned_abs}
+use Rattle.named_numbers.specs.Numbers.{most_coefficient}
 use Rattle.curve_pieces.proofs.rules.is_bounded.Given as goal
 
 -- the power of the months, and the coefficients so far
 abbrev pub invariant-loop-number : goal.invariant-loop-number
 invariant-loop-number l =
     (l.power ≡ l.months ^ l.number-index)
-    × ((i : ℕ) → i < l.number-index → unsigned_abs (get_or l.c i (pos 0)) * l.months ^ i ≤ 10 ^ 22)
+    × ((i : ℕ) → i < l.number-index → unsigned_abs (get_or l.c i (pos 0)) * l.months ^ i ≤ most_coefficient)

@@ -4,6 +4,7 @@ use Rattle.std.specs.Int.{w128}
 use Rattle.std.proofs.lemmas.Int.{to_z-of_z}
 use Rattle.frac_laws.specs.Fraction.{over, whole}
 use Rattle.frac_laws.specs.Polynomials.{all_over, shifted, stretched}
+use Rattle.named_numbers.specs.Numbers.{cells_of_month, cells_of_year}
 use Rattle.poly_small.specs.WholePolynomials.{value_of_sizes}
 use Rattle.poly_small.proofs.Sixes.{six_are_all}
 use Rattle.payment_plan.proofs.Shifts.{IsCell, cell_is_amount}
@@ -32,20 +33,21 @@ returns-clause-polynomial c =
     let number-3 : FitsSigned w128 (get_or c.reflect.result.c 3 (pos 0)) = search rules in
     let four : length c.args.s.now.c ≡ 4 = search rules in
     let six : length c.reflect.result.c ≡ 6 = search rules in
-    let origin = (c.args.month - c.args.s.now.from) * 32 + c.args.cell + 1 in
+    let origin = (c.args.month - c.args.s.now.from) * cells_of_month + c.args.cell + 1 in
     let is : IsCell c.args.s.now.c c.shift.result.c c.reflect.result.c
-    ((c.args.month - c.args.s.now.from) * 32 + c.args.cell + 1) =
+    ((c.args.month - c.args.s.now.from) * cells_of_month + c.args.cell + 1) =
     record {
       four = four;
-      shift = c.shift.ensures.polynomial (384 ^ 3)
-          ∙ ap (λ p. shifted (whole (pos origin)) (all_over (384 ^ 3) p)) c.in_cells.ensures;
-      turn = c.reflect.ensures.polynomial (384 ^ 3);
+      shift = c.shift.ensures.polynomial (cells_of_year ^ 3)
+          ∙ ap (λ p. shifted (whole (pos origin)) (all_over (cells_of_year ^ 3) p)) c.in_cells.ensures;
+      turn = c.reflect.ensures.polynomial (cells_of_year ^ 3);
     } in
     simp to_z-of_z
-    (ap (λ p. all_over (384 ^ 3) (take 4 p)) (sym (six_are_all c.reflect.result.c six))
+    (ap (λ p. all_over (cells_of_year ^ 3) (take 4 p)) (sym (six_are_all c.reflect.result.c six))
     ∙ cell_is_amount _ _ _ _ is
-    ∙ ap (λ n. stretched (over (negsuc 0) 384) (shifted (over (pos n) 384) (all_over 1 c.args.s.now.c)))
-    (add-one ((c.args.month - c.args.s.now.from) * 32 + c.args.cell)))
+    ∙ ap (λ n. stretched (over (negsuc 0) cells_of_year)
+    (shifted (over (pos n) cells_of_year) (all_over 1 c.args.s.now.c)))
+    (add-one ((c.args.month - c.args.s.now.from) * cells_of_month + c.args.cell)))
 
 pub returns-clause-size : goal.returns-clause-size
 returns-clause-size c =

@@ -1,7 +1,7 @@
 use Rattle.std.proofs.Common.{◌≡◌, pos, get_or, length, FitsSigned, rules}
 use Rattle.std.specs.Int.{w64, w128}
 use Rattle.std.proofs.lemmas.Int.{to_z-of_z}
-use Rattle.payment_plan.proofs.FourCoefficients.{products_are_in_cells}
+use Rattle.payment_plan.proofs.Shifts.{products_are_in_cells}
 use Rattle.payment_plan.proofs.amount.in_cells.Goals as goal
 
 pub returns : goal.returns

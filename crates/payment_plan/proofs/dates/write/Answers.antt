@@ -1,9 +1,8 @@
 use Rattle.std.proofs.Common.{◌-◌, ◌<◌, pos, length, get_or, FitsSigned, arith, rules}
 use Rattle.std.specs.Int.{w64}
 use Rattle.std.proofs.lemmas.Int.{to_z-of_z}
-use Rattle.std.proofs.lemmas.List.{length-set}
+use Rattle.std.proofs.lemmas.List.{length-set, get_or_default}
 use Rattle.payment_plan.specs.declared.lump.Lump.{Lump}
-use Rattle.payment_plan.proofs.Starts.{get_or-default}
 use Rattle.payment_plan.proofs.TableRows.{WritesLump, writes_lump}
 use Rattle.payment_plan.proofs.dates.write.Goals as goal
 
@@ -18,7 +17,7 @@ loop-i-preserved c =
       held = c.loop-i.invariant;
       some = c.loop-i-test.true;
       upto = c.loop-i.auto.i;
-      lump_is = get_or-default c.args.lumps.now (c.loop-i.i - 1) none _ inside;
+      lump_is = get_or_default c.args.lumps.now (c.loop-i.i - 1) none _ inside;
       place = c.place.ensures;
       own = c.requires.states (c.loop-i.i - 1) none inside;
       inside = omega (arith, c.requires.dates (c.loop-i.i - 1) none inside, c.place.ensures, c.loop-i.auto.table);

@@ -2,15 +2,15 @@ use Rattle.std.proofs.Common.{◌≡◌, ◌-◌, pos, length, FitsSigned, arith
 use Rattle.std.specs.Int.{w128}
 use Rattle.std.proofs.lemmas.Int.{to_z-of_z}
 use Rattle.payment_plan.specs.Loads.{AreWithin, load_of_numerators}
-use Rattle.payment_plan.proofs.Numerators.{payment_numerators_are}
-use Rattle.payment_plan.proofs.Sizes.{month_fits}
+use Rattle.curve_pieces.proofs.FourCoefficients.{payment_numerators_are}
+use Rattle.payment_plan.proofs.Sizes.{payment_month_fits}
 use Rattle.payment_plan.proofs.load.amount_load.Goals as goal
 
 pub month_bernstein-numerators-requires : goal.month_bernstein-numerators-requires
 month_bernstein-numerators-requires c =
     let four : length c.args.s.now.c ≡ 4 = search rules in
     rw c.in_years.ensures
-    (month_fits c.args.s.now.c (c.args.month - c.args.s.now.from) four c.requires.bounded.coefficients)
+    (payment_month_fits c.args.s.now.c (c.args.month - c.args.s.now.from) four c.requires.bounded.coefficients)
 
 pub load_of-requires : goal.load_of-requires
 load_of-requires c =
