@@ -1,6 +1,6 @@
-pub mod Endings
-pub mod FilePlans
+pub mod Answered
+pub mod Causes
 pub mod Growth
 pub mod OneCase
-pub mod Settled
 pub mod ValueReports
+pub mod Verdicts

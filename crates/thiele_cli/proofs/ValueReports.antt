@@ -1,19 +1,21 @@
 -- The report of a value is right where its row and its numbers are the value's.
-use Rattle.std.proofs.Common.{◌≡◌, ℕ, ◌≤◌, List, [], ◌∷◌, ap, sym, subst, ◌∙◌, refl, arith}
+use Rattle.std.proofs.Common.{◌≡◌, ◌≤◌, ℤ, [], ◌∷◌, inr, ap, sym, subst, ◌∙◌, refl, arith}
 use Rattle.std.specs.Prelude.{pos, ◌+ℤ◌, ◌≤ℤ◌}
 use Rattle.model_specs.specs.Product.{Product}
-use Rattle.model_specs.specs.Payments.{payment_plan}
-use Rattle.model_specs.specs.Ledgers.{scale, radius}
-use Rattle.model_specs.specs.Rows as model
+use Rattle.model_specs.specs.Ledgers.{scale}
 use Rattle.model_specs.specs.Rows.{Holds, tolerance}
-use Rattle.frac_laws.specs.Ledger.{tolerance_first}
 use Rattle.plain_value.specs.declared.valuation.Valued.{Valued}
 use Rattle.plain_value.specs.Values.{IsValueOf}
 use Rattle.reserve_report.specs.declared.report.Kind.TheVariants as kind
 use Rattle.reserve_report.specs.declared.report.What.TheVariants as what
 use Rattle.reserve_report.specs.declared.report.Row.{Row}
 use Rattle.reserve_report.specs.declared.report.Report.{Report}
-use Rattle.reserve_report.specs.Reports.{IsValueReport, IsValueRow, IsRight, row_of}
+use Rattle.reserve_report.specs.Reports.{IsValueReport, row_of}
+use Rattle.model_specs.specs.ValuationRules.{IsPlain}
+use Rattle.thiele_cli.specs.declared.answer.Answer.TheVariants.{Refused}
+use Rattle.thiele_cli.specs.declared.question.Question.TheVariants.{ValueAtIssue}
+use Rattle.thiele_cli.specs.declared.refusal.Refusal.TheVariants.{Unbuilt}
+use Rattle.thiele_cli.specs.Replies.{AnswersQuestion}
 
 -- the row of a value
 abbrev pub value_row : Product → Valued → Row
@@ -37,3 +39,9 @@ value_report_is_right p v r h a_value degree scales rows tolerances = record {
     narrow = subst (λ t. v.hi ≤ℤ (v.lo +ℤ pos t)) h.tolerance_is h.narrow;
   };
 }
+
+-- a product that is not plain is refused
+pub other_products_are_refused : (read product : Product) → read ≡ product
+    → ((force rate : ℤ) → ¬ IsPlain read force rate) → AnswersQuestion ValueAtIssue product (Refused Unbuilt)
+other_products_are_refused read product same none =
+    inr ((λ plain. none plain.0 plain.1 (subst (λ x. IsPlain x plain.0 plain.1) (sym same) plain.2)), refl)

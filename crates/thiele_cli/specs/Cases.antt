@@ -1,13 +1,13 @@
 -- What the words and the file that they name come to, for the files that a shelf tells.
-use Rattle.std.specs.Prelude.{◌≡◌, ℕ, ◌≤◌, ℤ, List, ⊤, Option, Some, None, length}
+use Rattle.std.specs.Prelude.{◌≡◌, ◌⊎◌, ℕ, ◌≤◌, List, ⊤, Option, Some, None, length}
+use Rattle.named_numbers.specs.Numbers.{most_file_bytes}
 use Rattle.io_ports.specs.Files.{file_of, IsLonger}
 use Rattle.model_specs.specs.Product.{Product}
-use Rattle.model_specs.specs.ValuationRules.{RuleBreak, IsPlain}
+use Rattle.model_specs.specs.ValuationRules.{RuleBreak}
 use Rattle.product_file.specs.Verdict.{IsNotToml, IsValid, Breaks}
-use Rattle.command_words.specs.Readings.{Request, Check, Value, Reserves, Occupancy, Moments, Premium, Generate}
-use Rattle.command_words.specs.Readings.{AreReadAs, HaveReading}
+use Rattle.command_words.specs.Readings.{Request, AreReadAs, HaveReading}
 use Rattle.thiele_cli.specs.declared.question.Question.{Question}
-use Rattle.thiele_cli.specs.declared.question.Question.TheVariants.{Limits, ValueAtIssue}
+use Rattle.thiele_cli.specs.Questions.{Asked, asked_of}
 
 -- what a shelf tells of its files: the names with their bytes, or nothing
 abbrev pub Files : Type 0
@@ -18,80 +18,42 @@ abbrev pub AreTold : Files → List ℕ → List ℕ → Type 0
 AreTold None name bytes = ⊤
 AreTold (Some files) name bytes = file_of name files ≡ Some bytes
 
--- the file of that name has more than 1,048,576 bytes, where files are told
+-- the file of that name has more bytes than a product file may have, where files are told
 abbrev pub IsLong : Files → List ℕ → Type 0
 IsLong None name = ⊤
-IsLong (Some files) name = IsLonger (Some files) name 1048576
-
--- the request that asks it
-abbrev pub request_about : Question → List ℕ → Request
-request_about Limits file = Check file
-request_about ValueAtIssue file = Value file
-
--- the words ask this of a file of at most 1,048,576 bytes, which are these
-pub record AskOf (files : Files) (words : List (List ℕ)) (question : Question) (bytes : List ℕ) : Type 0 where
-  pub name : List ℕ
-  pub asked : AreReadAs words (request_about question name)
-  pub told : AreTold files name bytes
-  pub short : length bytes ≤ 1048576
-
--- the words ask something of a file
-abbrev pub AskOfFile : List (List ℕ) → Type 0
-AskOfFile words = (question : Question) × (name : List ℕ) × AreReadAs words (request_about question name)
-
--- requests that are not built yet
-abbrev pub IsUnbuilt : Request → Type 0
-IsUnbuilt (Check file) = ⊥
-IsUnbuilt (Value file) = ⊥
-IsUnbuilt (Reserves file every) = ⊤
-IsUnbuilt (Occupancy file every) = ⊤
-IsUnbuilt (Moments file every) = ⊤
-IsUnbuilt (Premium file) = ⊤
-IsUnbuilt (Generate seed) = ⊤
-
--- a plain product: one state, no lump, a constant force of interest and a constant sojourn rate
-abbrev pub IsPlainProduct : Product → Type 0
-IsPlainProduct product = (force : ℤ) × (rate : ℤ) × IsPlain product force rate
+IsLong (Some files) name = IsLonger (Some files) name most_file_bytes
 
 -- what words and files come to: no reading, a request that is not built, a file that is too long, that is no TOML or
--- that breaks a rule, or a product that is checked, that is valued, or that is not plain and so not valued yet
+-- that breaks a rule, or a question about a product that breaks none
 pub data Case : Type 0 where
   NoReading : Case
   Unbuilt : Case
   TooLong : Case
   NoToml : Case
   Broken : RuleBreak → Case
-  Checked : Product → Case
-  Valued : Product → Case
-  NotPlain : Product → Case
+  Answered : Question → Product → Case
 
--- what the bytes of a file come to where this is asked of them
+-- what the bytes of a file come to where this is asked of them: they are no TOML, they break this rule first, or they
+-- have this product
 abbrev pub IsFileCase : Question → List ℕ → Case → Type 0
-IsFileCase question bytes NoReading = ⊥
-IsFileCase question bytes Unbuilt = ⊥
-IsFileCase question bytes TooLong = ⊥
-IsFileCase question bytes NoToml = IsNotToml bytes
-IsFileCase question bytes (Broken found) = Breaks bytes found
-IsFileCase Limits bytes (Checked product) = IsValid bytes product
-IsFileCase ValueAtIssue bytes (Checked product) = ⊥
-IsFileCase Limits bytes (Valued product) = ⊥
-IsFileCase ValueAtIssue bytes (Valued product) = IsValid bytes product × IsPlainProduct product
-IsFileCase Limits bytes (NotPlain product) = ⊥
-IsFileCase ValueAtIssue bytes (NotPlain product) = IsValid bytes product × ¬ IsPlainProduct product
+IsFileCase question bytes case =
+    (IsNotToml bytes × (case ≡ NoToml))
+    ⊎ ((found : RuleBreak) × Breaks bytes found × (case ≡ Broken found))
+    ⊎ ((product : Product) × IsValid bytes product × (case ≡ Answered question product))
 
--- what the words come to where they ask something of a file
-abbrev pub IsCaseOfFile : Files → List (List ℕ) → Case → Type 0
-IsCaseOfFile files words case =
-    (question : Question) × (bytes : List ℕ) × AskOf files words question bytes × IsFileCase question bytes case
+-- what a name comes to where this is asked of its file: the file is too long, or it has these bytes
+abbrev pub IsNamedCase : Files → Question → List ℕ → Case → Type 0
+IsNamedCase files question name case =
+    (IsLong files name × (case ≡ TooLong))
+    ⊎ ((bytes : List ℕ) × AreTold files name bytes × (length bytes ≤ most_file_bytes) × IsFileCase question bytes case)
 
--- what the words and the files come to
+-- what a request comes to by what it asks of which file; one that asks nothing is not built
+abbrev pub IsAskedCase : Files → Asked → Case → Type 0
+IsAskedCase files None case = case ≡ Unbuilt
+IsAskedCase files (Some asked) case = IsNamedCase files asked.0 asked.1 case
+
+-- what the words come to: they have no reading, or they are read as this request
 abbrev pub IsCase : Files → List (List ℕ) → Case → Type 0
-IsCase files words NoReading = ¬ HaveReading words
-IsCase files words Unbuilt = (request : Request) × AreReadAs words request × IsUnbuilt request
-IsCase files words TooLong =
-    (question : Question) × (name : List ℕ) × AreReadAs words (request_about question name) × IsLong files name
-IsCase files words NoToml = IsCaseOfFile files words NoToml
-IsCase files words (Broken found) = IsCaseOfFile files words (Broken found)
-IsCase files words (Checked product) = IsCaseOfFile files words (Checked product)
-IsCase files words (Valued product) = IsCaseOfFile files words (Valued product)
-IsCase files words (NotPlain product) = IsCaseOfFile files words (NotPlain product)
+IsCase files words case =
+    ((¬ HaveReading words) × (case ≡ NoReading))
+    ⊎ ((request : Request) × AreReadAs words request × IsAskedCase files (asked_of request) case)

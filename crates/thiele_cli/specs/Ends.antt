@@ -1,15 +1,10 @@
--- How each case ends, and what is printed.
-use Rattle.std.specs.Prelude.{◌≡◌, ℕ, List, [], ◌∷◌, ◌++◌, codes, decimal, Option, None, IsSome, IsSomeAnd, ◌⊎◌}
-use Rattle.model_specs.specs.Product.{Product}
-use Rattle.model_specs.specs.ValuationRules as model
-use Rattle.reserve_report.specs.declared.report.Report.{Report}
-use Rattle.reserve_report.specs.Reports.{IsValueReport}
-use Rattle.reserve_report.specs.ReportText.{report_text}
-use Rattle.reserve_report.specs.CheckText.{check_text}
+-- The ends of a run, what each of them comes by, and the names whose fetch failed.
+use Rattle.std.specs.Prelude.{◌≡◌, ◌≢◌, ◌⊎◌, ℕ, List, [], ◌∷◌, ◌++◌, IsSome, ⊤}
+use Rattle.thiele_cli.specs.declared.answer.Answer.{Answer}
 use Rattle.thiele_cli.specs.declared.end.End.{End}
 use Rattle.thiele_cli.specs.declared.end.End.TheVariants as end
-use Rattle.thiele_cli.specs.Cases.{Files, Case, NoReading, Unbuilt, TooLong, NoToml, Broken, Checked, Valued}
-use Rattle.thiele_cli.specs.Cases.{NotPlain, IsCase}
+use Rattle.thiele_cli.specs.Cases.{Files, Case, IsCase}
+use Rattle.thiele_cli.specs.Replies.{end_of, report_of, Answers}
 
 -- the exit status of each end
 abbrev pub status_of : End → ℕ
@@ -23,59 +18,47 @@ status_of end.WriteFault = 8
 status_of end.Memory = 9
 status_of end.NotBuilt = 10
 
--- the end of each case
-abbrev pub end_of : Case → End
-end_of NoReading = end.BadWords
-end_of Unbuilt = end.NotBuilt
-end_of TooLong = end.TooLong 1048577
-end_of NoToml = end.NotToml
-end_of (Broken found) = end.Rule (record { rule = found.rule; place = found.place })
-end_of (Checked product) = end.Done
-end_of (Valued product) = end.Done
-end_of (NotPlain product) = end.NotBuilt
+-- the ends of a run that has no answer or could not write it
+abbrev pub IsFault : End → Type 0
+IsFault end.FetchFault = ⊤
+IsFault end.WriteFault = ⊤
+IsFault end.Memory = ⊤
+IsFault _ = ⊥
 
--- there is no report, and the text is this one
-abbrev pub Prints : Option Report → List ℕ → List ℕ → Type 0
-Prints report text line = (report ≡ None) × (text ≡ line)
-
--- there is a report, it is right for the product, and the text is its text
-abbrev pub IsReportOf : Product → Option Report → List ℕ → Type 0
-IsReportOf product report text =
-    IsSomeAnd report (λ r. IsValueReport product r × (text ≡ report_text product r))
-
--- the line that refuses a file for a broken rule, by its number and place
-abbrev pub rule_text : ℕ → ℕ → List ℕ
-rule_text rule place = codes "refused rule " ++ decimal rule ++ codes " place " ++ decimal place ++ codes "\n"
-
-abbrev pub rule_line : model.RuleBreak → List ℕ
-rule_line found = rule_text found.rule found.place
-
--- the report and the text of each case
-abbrev pub Answers : Case → Option Report → List ℕ → Type 0
-Answers NoReading report text = Prints report text (codes "refused words\n")
-Answers Unbuilt report text = Prints report text (codes "refused unbuilt\n")
-Answers TooLong report text = Prints report text (codes "refused length " ++ decimal 1048577 ++ codes "\n")
-Answers NoToml report text = Prints report text (codes "refused toml\n")
-Answers (Broken found) report text = Prints report text (rule_line found)
-Answers (Checked product) report text = Prints report text (check_text product)
-Answers (Valued product) report text = IsReportOf product report text
-Answers (NotPlain product) report text = Prints report text (codes "refused unbuilt\n")
-
--- the words and the files come to a case with this end
-pub record EndBy (files : Files) (words : List (List ℕ)) (own : End) : Type 0 where
+-- the words and the files come to a case with this answer
+pub record IsAnswer (files : Files) (words : List (List ℕ)) (given : Answer) : Type 0 where
   pub case : Case
   pub holds : IsCase files words case
-  pub ends : own ≡ end_of case
+  pub says : Answers case given
 
--- the end comes only by its case; and where the files are told and no fetch failed, the case leads to no other end
--- than want of memory and a fault of the sink
+-- they come to a case with an answer of this end
+pub record EndBy (files : Files) (words : List (List ℕ)) (own : End) : Type 0 where
+  pub given : Answer
+  pub is_answer : IsAnswer files words given
+  pub ends : own ≡ end_of given
+
+-- they come to a case whose every answer has this end
+pub record LeadTo (files : Files) (words : List (List ℕ)) (own : End) : Type 0 where
+  pub case : Case
+  pub holds : IsCase files words case
+  pub leads : (given : Answer) → Answers case given → end_of given ≡ own
+
+-- they come to a case whose every answer is a report
+pub record LeadToReport (files : Files) (words : List (List ℕ)) : Type 0 where
+  pub case : Case
+  pub holds : IsCase files words case
+  pub reports : (given : Answer) → Answers case given → IsSome (report_of given)
+
+-- the end comes only by a case with such an answer; and where the files are told and no fetch failed, a case that leads
+-- to it has no other end than want of memory and a fault of the sink
 pub record ComesBy (files : Files) (words failed_before failed_now : List (List ℕ)) (reached own : End)
     : Type 0 where
   pub only : reached ≡ own → EndBy files words own
-  pub always : IsSome files → failed_now ≡ failed_before → EndBy files words own
+  pub always : IsSome files → failed_now ≡ failed_before → LeadTo files words own
       → (reached ≡ own) ⊎ (reached ≡ end.Memory) ⊎ (reached ≡ end.WriteFault)
 
--- the name whose fetch failed: FILE after a fetch fault, and none after any other end
-abbrev pub failed_name : End → List (List ℕ) → List (List ℕ)
-failed_name end.FetchFault (command ∷ name ∷ []) = name ∷ []
-failed_name _ words = []
+-- after a fetch fault the list of failed names has one more, which is of this kind; after any other end it has none
+abbrev pub NotesFailure : (List ℕ → Type 0) → End → List (List ℕ) → List (List ℕ) → Type 0
+NotesFailure IsName own before now =
+    ((own ≡ end.FetchFault) × (name : List ℕ) × IsName name × (now ≡ before ++ name ∷ []))
+    ⊎ ((own ≢ end.FetchFault) × (now ≡ before))

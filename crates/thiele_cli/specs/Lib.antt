@@ -1,5 +1,8 @@
 pub mod Cases
 pub mod Ends
-pub mod Opened
+pub mod FileAnswers
 pub mod Outcome
-pub mod Plans
+pub mod Questions
+pub mod Refusals
+pub mod Replies
+pub mod Verdicts

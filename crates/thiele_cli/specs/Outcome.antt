@@ -1,44 +1,29 @@
--- What a run writes, end by end.
-use Rattle.std.specs.Prelude.{◌≡◌, ℕ, ◌<◌, List, [], length, Option, None}
-use Rattle.std.specs.Io.KnownBytes.{Appends}
+-- What a run writes.
+use Rattle.std.specs.Prelude.{◌≡◌, ◌⊎◌, ℕ, ◌<◌, List, length, Option, None}
+use Rattle.std.specs.Io.KnownBytes.{Appends, Keeps}
 use Rattle.io_ports.specs.Growth.{AppendsPrefix}
 use Rattle.reserve_report.specs.declared.report.Report.{Report}
+use Rattle.thiele_cli.specs.declared.answer.Answer.{Answer}
 use Rattle.thiele_cli.specs.declared.end.End.{End}
 use Rattle.thiele_cli.specs.declared.end.End.TheVariants.{FetchFault, WriteFault, Memory}
-use Rattle.thiele_cli.specs.Cases.{Files, Case, IsCase, AskOfFile}
-use Rattle.thiele_cli.specs.Ends.{end_of, Answers, Prints}
+use Rattle.thiele_cli.specs.Questions.{AskAbout}
+use Rattle.thiele_cli.specs.Cases.{Files}
+use Rattle.thiele_cli.specs.Replies.{end_of, report_of, text_of}
+use Rattle.thiele_cli.specs.Ends.{IsAnswer}
 
--- the words and the files come to a case with this end, report and text
-pub record IsAnswer (files : Files) (words : List (List ℕ)) (own : End) (report : Option Report) (text : List ℕ)
-    : Type 0 where
-  pub case : Case
-  pub holds : IsCase files words case
-  pub ends : own ≡ end_of case
-  pub says : Answers case report text
+-- told bytes grew by the text of the answer, and the end is the answer's; or by a prefix of it, which is not empty as a
+-- whole, at a fault of the sink
+abbrev pub Delivers : Answer → End → Option (List ℕ) → Option (List ℕ) → Type 0
+Delivers given own old new =
+    ((own ≡ end_of given) × Appends old new (text_of given))
+    ⊎ ((own ≡ WriteFault) × (0 < length (text_of given)) × AppendsPrefix old new (text_of given))
 
--- the report and the text that is to be written, for each end that is settled before the sink is reached
-abbrev pub Settles : Files → List (List ℕ) → End → Option Report → List ℕ → Type 0
-Settles files words FetchFault report text = AskOfFile words × Prints report text []
-Settles files words WriteFault report text = ⊥
-Settles files words Memory report text = Prints report text []
-Settles files words own report text = IsAnswer files words own report text
+-- there is no answer: the file that the words name was not fetched, or memory was refused
+abbrev pub HaveNoAnswer : List (List ℕ) → End → Type 0
+HaveNoAnswer words own = ((own ≡ FetchFault) × (file : List ℕ) × AskAbout words file) ⊎ (own ≡ Memory)
 
--- a text with this end and report was to be written, and told bytes grew by a prefix of it
-pub record WritesPrefix (files : Files) (words : List (List ℕ)) (report : Option Report) (old new : Option (List ℕ))
-    : Type 0 where
-  pub planned : End
-  pub text : List ℕ
-  pub not_empty : 0 < length text
-  pub settles : Settles files words planned report text
-  pub grew : AppendsPrefix old new text
-
--- told bytes grew by the text of this end and report
-abbrev pub WritesAll : Files → List (List ℕ) → End → Option Report → Option (List ℕ) → Option (List ℕ)
-    → Type 0
-WritesAll files words own report old new =
-    (text : List ℕ) × Settles files words own report text × Appends old new text
-
--- what was written: a prefix after a fault of the sink, else the whole text
+-- nothing is written where there is no answer; else the answer is that of the words and the files, with its report
 abbrev pub Writes : Files → List (List ℕ) → End → Option Report → Option (List ℕ) → Option (List ℕ) → Type 0
-Writes files words WriteFault report old new = WritesPrefix files words report old new
-Writes files words own report old new = WritesAll files words own report old new
+Writes files words own report old new =
+    (HaveNoAnswer words own × (report ≡ None) × Keeps old new)
+    ⊎ ((given : Answer) × IsAnswer files words given × (report ≡ report_of given) × Delivers given own old new)

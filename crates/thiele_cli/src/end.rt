@@ -54,3 +54,18 @@ pub struct Finish {
     pub end: End,
     pub report: Option<Report>,
 }
+
+impl Finish {
+    /// The end with its status.
+    pub fn of(end: End, report: Option<Report>) -> Finish
+        ensures status { result.status ≡ status_of end }
+        ensures end { result.end ≡ end }
+        ensures report { result.report ≡ report }
+    {
+        Finish {
+            status: end.status(),
+            end,
+            report,
+        }
+    }
+}

@@ -1,44 +1,34 @@
 // The whole program but its real shelf and sink.
-ghost use Rattle.std.specs.Prelude.{◌≡◌, ◌≢◌, ◌++◌, ◌⊎◌, ℕ, None, IsSome, codes};
-ghost use Rattle.std.specs.Io.KnownBytes.{Appends};
-ghost use Rattle.io_ports.specs.Growth.{AppendsPrefix};
+ghost use Rattle.std.specs.Prelude.{◌≡◌, ◌≢◌, ◌⊎◌, IsSome};
 ghost use Rattle.io_ports.specs.Counts.{Rose};
-ghost use Rattle.model_specs.specs.Product.{Product};
-ghost use Rattle.product_model.specs.declared.breaks.RuleBreak.{RuleBreak};
 ghost use Rattle.command_words.specs.Readings.{words_of, Request, AreReadAs, HaveReading};
-ghost use Rattle.thiele_cli.specs.Cases.{IsCase, IsUnbuilt};
-ghost use Rattle.thiele_cli.specs.Cases as case;
-ghost use Rattle.thiele_cli.specs.Ends.{ComesBy, failed_name, status_of};
-ghost use Rattle.thiele_cli.specs.Outcome.{Writes};
+ghost use Rattle.thiele_cli.specs.Questions.{IsUnbuilt, AskAbout};
+ghost use Rattle.thiele_cli.specs.Replies.{report_of, text_of};
+ghost use Rattle.thiele_cli.specs.Ends.{ComesBy, IsFault, LeadTo, LeadToReport, NotesFailure, status_of};
+ghost use Rattle.thiele_cli.specs.Outcome.{Delivers, Writes};
 
+use crate::answer::Answer;
+use crate::command_answer::command_answer;
 use crate::end::{End, Finish};
+use crate::fault::Fault;
 use crate::pieces::write_pieces;
-use crate::plan::command_plan;
+use crate::refusal::Refusal;
 use command_words::read_words;
 use io_ports::{Shelf, Sink};
 use std::alloc::Global;
 
-/// Refuses words without a reading.
-fn refuse_words<K: Sink>(sink: &mut K) -> Finish
+/// Hands over the text of an answer, and ends as the answer does or with a write fault.
+fn deliver<K: Sink>(sink: &mut K, answer: Answer, text: &[u8]) -> Finish
+    requires { text.now ≡ text_of answer }
     ensures status { result.status ≡ status_of result.end }
-    ensures end { (result.end ≡ End.BadWords) ⊎ (result.end ≡ End.WriteFault) }
-    ensures report { result.report ≡ None }
-    ensures written { result.end ≢ End.WriteFault → Appends (K.written sink.old) (K.written sink.new) (codes "refused words\n") }
-    ensures prefix { result.end ≡ End.WriteFault → AppendsPrefix (K.written sink.old) (K.written sink.new) (codes "refused words\n") }
+    ensures report { result.report ≡ report_of answer }
+    ensures delivers { Delivers answer result.end (K.written sink.old) (K.written sink.new) }
     ensures write_fault { result.end ≡ End.WriteFault → Rose (K.faults sink.old) (K.faults sink.new) }
     ensures no_write_fault { result.end ≢ End.WriteFault → K.faults sink.new ≡ K.faults sink.old }
 {
-    match write_pieces(sink, b"refused words\n") {
-        Ok(()) => Finish {
-            status: End::BadWords.status(),
-            end: End::BadWords,
-            report: None,
-        },
-        Err(_) => Finish {
-            status: End::WriteFault.status(),
-            end: End::WriteFault,
-            report: None,
-        },
+    match write_pieces(sink, text) {
+        Ok(()) => Finish::of(answer.end(), answer.into_report()),
+        Err(_) => Finish::of(End::WriteFault, answer.into_report()),
     }
 }
 
@@ -56,61 +46,43 @@ pub fn run<H: Shelf, K: Sink>(
     ensures written { Writes (H.files shelf.old) (words_of words.now) result.end result.report
         (K.written sink.old) (K.written sink.new) }
 
-    // When each end comes, and that it comes wherever its case is known.
-    ensures done { ComesBy (H.files shelf.old) (words_of words.now) (H.failed shelf.old) (H.failed shelf.new) result.end End.Done }
-    ensures bad_words { ComesBy (H.files shelf.old) (words_of words.now) (H.failed shelf.old) (H.failed shelf.new) result.end End.BadWords }
-    ensures not_built { ComesBy (H.files shelf.old) (words_of words.now) (H.failed shelf.old) (H.failed shelf.new) result.end End.NotBuilt }
-    ensures not_toml { ComesBy (H.files shelf.old) (words_of words.now) (H.failed shelf.old) (H.failed shelf.new) result.end End.NotToml }
-    ensures too_long { (seen : ℕ) →
-        ComesBy (H.files shelf.old) (words_of words.now) (H.failed shelf.old) (H.failed shelf.new) result.end (End.TooLong seen) }
-    ensures rule { (found : RuleBreak) →
-        ComesBy (H.files shelf.old) (words_of words.now) (H.failed shelf.old) (H.failed shelf.new) result.end (End.Rule found) }
+    // When each end comes, and that it comes wherever its case is known: `Done` and each refusal.
+    ensures causes { (own : End) → ¬ IsFault own →
+        ComesBy (H.files shelf.old) (words_of words.now) (H.failed shelf.old) (H.failed shelf.new) result.end own }
 
     // Words without a reading, and commands that are not built, need no file; the first take no memory either.
-    ensures no_reading { ¬ HaveReading (words_of words.now) → (result.end ≡ End.BadWords) ⊎ (result.end ≡ End.WriteFault) }
+    ensures no_reading { ¬ HaveReading (words_of words.now) →
+        (result.end ≡ End.BadWords) ⊎ (result.end ≡ End.WriteFault) }
     ensures unbuilt { (request : Request) → AreReadAs (words_of words.now) request → IsUnbuilt request →
         (result.end ≡ End.NotBuilt) ⊎ (result.end ≡ End.Memory) ⊎ (result.end ≡ End.WriteFault) }
 
     // A fetch fault comes exactly where the list of failed names grew, and it grew by the word FILE.
-    ensures failed { H.failed shelf.new ≡ H.failed shelf.old ++ failed_name result.end (words_of words.now) }
+    ensures failed { NotesFailure (AskAbout (words_of words.now)) result.end (H.failed shelf.old) (H.failed shelf.new) }
 
     // A fault of the sink comes only where its count rose, and no other end leaves it changed.
     ensures write_fault { result.end ≡ End.WriteFault → Rose (K.faults sink.old) (K.faults sink.new) }
     ensures no_write_fault { result.end ≢ End.WriteFault → K.faults sink.new ≡ K.faults sink.old }
 
-    // A valued file that is told has a report, and with no fault it is written, but for want of memory.
-    ensures reported { (product : Product) → IsCase (H.files shelf.old) (words_of words.now) (case.Valued product) →
-        IsSome (H.files shelf.old) → result.end ≡ End.WriteFault → IsSome result.report }
-    ensures complete { (product : Product) → IsCase (H.files shelf.old) (words_of words.now) (case.Checked product)
-        ⊎ IsCase (H.files shelf.old) (words_of words.now) (case.Valued product) →
+    // Where the files are told, a report that could not be written whole is handed back, and with no fault each case
+    // has its end, but for want of memory.
+    ensures reported { LeadToReport (H.files shelf.old) (words_of words.now) → IsSome (H.files shelf.old) →
+        result.end ≡ End.WriteFault → IsSome result.report }
+    ensures complete { (own : End) → LeadTo (H.files shelf.old) (words_of words.now) own →
         IsSome (H.files shelf.old) → H.failed shelf.new ≡ H.failed shelf.old →
-        ¬ Rose (K.faults sink.old) (K.faults sink.new) → (result.end ≡ End.Done) ⊎ (result.end ≡ End.Memory) }
+        ¬ Rose (K.faults sink.old) (K.faults sink.new) → (result.end ≡ own) ⊎ (result.end ≡ End.Memory) }
 
     ensures files { H.files shelf.new ≡ H.files shelf.old }
 {
     let Some(command) = read_words(words) else {
-        return refuse_words(sink);
+        return deliver(sink, Answer::Refused(Refusal::Words), b"refused words\n");
     };
-    let plan = match command_plan(alloc, command, shelf) {
-        Ok(plan) => plan,
-        Err(_) => {
-            return Finish {
-                status: End::Memory.status(),
-                end: End::Memory,
-                report: None,
-            };
-        }
+    let answer = match command_answer(alloc, command, shelf) {
+        Ok(answer) => answer,
+        Err(Fault::Fetch) => return Finish::of(End::FetchFault, None),
+        Err(Fault::Memory) => return Finish::of(End::Memory, None),
     };
-    match write_pieces(sink, &plan.text) {
-        Ok(()) => Finish {
-            status: plan.end.status(),
-            end: plan.end,
-            report: plan.report,
-        },
-        Err(_) => Finish {
-            status: End::WriteFault.status(),
-            end: End::WriteFault,
-            report: plan.report,
-        },
+    match answer.text(alloc) {
+        Ok(text) => deliver(sink, answer, &text),
+        Err(_) => Finish::of(End::Memory, None),
     }
 }

@@ -1,10 +1,15 @@
-// The report of the value of a plain product.
+// The value of a plain product.
 ghost use Rattle.std.specs.Prelude.{◌≡◌, ◌<◌, All, IfOk, length};
 ghost use Rattle.plain_value.specs.PlainNumbers.{ArePlainNumbers};
 ghost use Rattle.reserve_report.specs.Reports.{IsValueReport};
+ghost use Rattle.thiele_cli.specs.declared.question.Question.TheVariants.{ValueAtIssue};
+ghost use Rattle.thiele_cli.specs.Replies.{AnswersQuestion, IsPrintable};
 
-use plain_value::{Plain, Valued, value};
+use crate::answer::Answer;
+use crate::refusal::Refusal;
+use plain_value::{Plain, Valued, plain_numbers, value};
 use product_model::Product;
+use rate_bounds::Admitted;
 use reserve_report::{Kind, Report, Row, What};
 use std::alloc::{AllocError, Global};
 
@@ -23,7 +28,7 @@ fn value_row(start: usize, valued: &Valued) -> Row
 }
 
 /// The report of the value at issue of a plain product.
-pub fn value_report(alloc: Global, product: &Product, plain: Plain) -> Result<Report, AllocError>
+fn value_report(alloc: Global, product: &Product, plain: Plain) -> Result<Report, AllocError>
     requires { ArePlainNumbers product.now plain }
     ensures report { IfOk result (IsValueReport product.now) }
     ensures same { IfOk result (λ report. length report.rows.items ≡ length report.tolerance.items) }
@@ -41,4 +46,16 @@ pub fn value_report(alloc: Global, product: &Product, plain: Plain) -> Result<Re
         tolerance,
         rows,
     })
+}
+
+/// The value at issue: a report, where the product is plain. Another product is not valued yet.
+pub fn value_answer(alloc: Global, admitted: Admitted) -> Result<Answer, AllocError>
+    ensures answer { IfOk result (AnswersQuestion ValueAtIssue admitted) }
+    ensures printable { IfOk result IsPrintable }
+{
+    let Some(plain) = plain_numbers(admitted.product()) else {
+        return Ok(Answer::Refused(Refusal::Unbuilt));
+    };
+    let report = value_report(alloc, admitted.product(), plain)?;
+    Ok(Answer::Report(admitted, report))
 }

@@ -1,94 +1,58 @@
-use Rattle.std.proofs.Common.{◌++◌, refl, ap, ◌∙◌}
-use Rattle.thiele_cli.specs.declared.end.End.TheVariants as end
-use Rattle.thiele_cli.proofs.Endings.{comes_by, not_a_write_fault, bad_words_written, bad_words_come, all_written}
-use Rattle.thiele_cli.proofs.Endings.{unbuilt_ends, completes, reported, none_failed}
+use Rattle.std.proofs.Common.{inl, inr, ap, Err}
+use Rattle.std.proofs.KnownBytes.{Keeps-refl}
+use Rattle.command_words.specs.Commands.{request_of}
+use Rattle.io_ports.specs.Counts.{Rose}
+use Rattle.thiele_cli.specs.declared.answer.Answer.TheVariants as answer
+use Rattle.thiele_cli.specs.declared.refusal.Refusal.TheVariants as refusal
+use Rattle.thiele_cli.proofs.Answered.{request_answers, no_reading_answers}
+use Rattle.thiele_cli.proofs.Causes.{comes_by, reported, completes}
 use Rattle.thiele_cli.proofs.run.run.Goals as goal
 
-pub returns-in_default-clause-written : goal.returns-in_default-clause-written
-returns-in_default-clause-written g c =
-    bad_words_written _ _ c.refuse_words.result.end c.refuse_words.result.report _ _ c.in_default.ensures.none
-    c.refuse_words.ensures.end c.refuse_words.ensures.report c.refuse_words.ensures.written
-    c.refuse_words.ensures.prefix
+pub returns-in_default-clause-causes : goal.returns-in_default-clause-causes
+returns-in_default-clause-causes g c own sound =
+    comes_by _ _ _ _ (answer.Refused refusal.Words) c.deliver.result.end (g.K.Sink.written c.args.sink.now)
+    (g.K.Sink.written c.deliver.new.sink) own (no_reading_answers _ _ c.in_default.ensures.none)
+    c.deliver.ensures.delivers sound
 
-pub returns-in_default-clause-bad_words : goal.returns-in_default-clause-bad_words
-returns-in_default-clause-bad_words g c =
-    bad_words_come _ _ _ _ c.refuse_words.result.end c.in_default.ensures.none c.refuse_words.ensures.end
+pub returns-in_default-clause-reported : goal.returns-in_default-clause-reported
+returns-in_default-clause-reported g c cause told fault =
+    reported _ _ (answer.Refused refusal.Words) c.deliver.result.report
+    (no_reading_answers _ _ c.in_default.ensures.none) c.deliver.ensures.report cause told
 
-pub returns-in-Ok-write_pieces-clause-written : goal.returns-in-Ok-write_pieces-clause-written
-returns-in-Ok-write_pieces-clause-written g c =
-    all_written _ _ c.in-Ok.plan.end c.in-Ok.plan.report c.in-Ok.plan.text.items _ _
-    (c.in-Ok.ensures.settles _ c.in-Some.ensures.some) (rw c.deref.ensures.value at c.in-Ok-write_pieces.ensures.written)
+pub returns-in_default-clause-complete : goal.returns-in_default-clause-complete
+returns-in_default-clause-complete g c own cause told same calm =
+    completes _ _ (answer.Refused refusal.Words) c.deliver.result.end own (g.K.Sink.written c.args.sink.now)
+    (g.K.Sink.written c.deliver.new.sink) (Rose (g.K.Sink.faults c.args.sink.now) (g.K.Sink.faults c.deliver.new.sink))
+    (no_reading_answers _ _ c.in_default.ensures.none) c.deliver.ensures.delivers cause told
+    c.deliver.ensures.write_fault calm
 
-pub returns-in-Ok-write_pieces-clause-done : goal.returns-in-Ok-write_pieces-clause-done
-returns-in-Ok-write_pieces-clause-done g c =
-    comes_by _ _ _ _ c.in-Ok.plan.end end.Done c.in-Ok.plan.report c.in-Ok.plan.text.items refl
-    (c.in-Ok.ensures.settles _ c.in-Some.ensures.some) (c.in-Ok.ensures.failed _ c.in-Some.ensures.some)
+pub returns-in-Err-Fetch-clause-written : goal.returns-in-Err-Fetch-clause-written
+returns-in-Err-Fetch-clause-written g c =
+    let file = c.in-Err-Fetch.ensures.not_fetched (ap (λ e. Err e) c.in-Err-Fetch.field-0-is) in
+    inl (inl (c.of.ensures.end, file.0, (request_of c.in-Some.command, c.in-Some.ensures.some, file.1)),
+    c.of.ensures.report, Keeps-refl (g.K.Sink.written c.args.sink.now))
 
-pub returns-in-Ok-write_pieces-clause-bad_words : goal.returns-in-Ok-write_pieces-clause-bad_words
-returns-in-Ok-write_pieces-clause-bad_words g c =
-    comes_by _ _ _ _ c.in-Ok.plan.end end.BadWords c.in-Ok.plan.report c.in-Ok.plan.text.items refl
-    (c.in-Ok.ensures.settles _ c.in-Some.ensures.some) (c.in-Ok.ensures.failed _ c.in-Some.ensures.some)
+pub returns-in-Ok-text-clause-causes : goal.returns-in-Ok-text-clause-causes
+returns-in-Ok-text-clause-causes g c own sound =
+    comes_by _ _ _ _ c.in-Ok.answer c.deliver-in-Ok-text.result.end (g.K.Sink.written c.args.sink.now)
+    (g.K.Sink.written c.deliver-in-Ok-text.new.sink) own
+    (request_answers _ _ (request_of c.in-Some.command) c.in-Ok.answer c.in-Some.ensures.some c.in-Ok.ensures.answer)
+    c.deliver-in-Ok-text.ensures.delivers sound
 
-pub returns-in-Ok-write_pieces-clause-not_built : goal.returns-in-Ok-write_pieces-clause-not_built
-returns-in-Ok-write_pieces-clause-not_built g c =
-    comes_by _ _ _ _ c.in-Ok.plan.end end.NotBuilt c.in-Ok.plan.report c.in-Ok.plan.text.items refl
-    (c.in-Ok.ensures.settles _ c.in-Some.ensures.some) (c.in-Ok.ensures.failed _ c.in-Some.ensures.some)
+pub returns-in-Ok-text-clause-reported : goal.returns-in-Ok-text-clause-reported
+returns-in-Ok-text-clause-reported g c cause told fault =
+    reported _ _ c.in-Ok.answer c.deliver-in-Ok-text.result.report
+    (request_answers _ _ (request_of c.in-Some.command) c.in-Ok.answer c.in-Some.ensures.some c.in-Ok.ensures.answer)
+    c.deliver-in-Ok-text.ensures.report cause told
 
-pub returns-in-Ok-write_pieces-clause-not_toml : goal.returns-in-Ok-write_pieces-clause-not_toml
-returns-in-Ok-write_pieces-clause-not_toml g c =
-    comes_by _ _ _ _ c.in-Ok.plan.end end.NotToml c.in-Ok.plan.report c.in-Ok.plan.text.items refl
-    (c.in-Ok.ensures.settles _ c.in-Some.ensures.some) (c.in-Ok.ensures.failed _ c.in-Some.ensures.some)
+pub returns-in-Ok-text-clause-complete : goal.returns-in-Ok-text-clause-complete
+returns-in-Ok-text-clause-complete g c own cause told same calm =
+    completes _ _ c.in-Ok.answer c.deliver-in-Ok-text.result.end own (g.K.Sink.written c.args.sink.now)
+    (g.K.Sink.written c.deliver-in-Ok-text.new.sink)
+    (Rose (g.K.Sink.faults c.args.sink.now) (g.K.Sink.faults c.deliver-in-Ok-text.new.sink))
+    (request_answers _ _ (request_of c.in-Some.command) c.in-Ok.answer c.in-Some.ensures.some c.in-Ok.ensures.answer)
+    c.deliver-in-Ok-text.ensures.delivers cause told c.deliver-in-Ok-text.ensures.write_fault calm
 
-pub returns-in-Ok-write_pieces-clause-too_long : goal.returns-in-Ok-write_pieces-clause-too_long
-returns-in-Ok-write_pieces-clause-too_long g c seen =
-    comes_by _ _ _ _ c.in-Ok.plan.end (end.TooLong seen) c.in-Ok.plan.report c.in-Ok.plan.text.items refl
-    (c.in-Ok.ensures.settles _ c.in-Some.ensures.some) (c.in-Ok.ensures.failed _ c.in-Some.ensures.some)
-
-pub returns-in-Ok-write_pieces-clause-rule : goal.returns-in-Ok-write_pieces-clause-rule
-returns-in-Ok-write_pieces-clause-rule g c found =
-    comes_by _ _ _ _ c.in-Ok.plan.end (end.Rule found) c.in-Ok.plan.report c.in-Ok.plan.text.items refl
-    (c.in-Ok.ensures.settles _ c.in-Some.ensures.some) (c.in-Ok.ensures.failed _ c.in-Some.ensures.some)
-
-pub returns-in-Ok-write_pieces-clause-unbuilt : goal.returns-in-Ok-write_pieces-clause-unbuilt
-returns-in-Ok-write_pieces-clause-unbuilt g c request asked none =
-    unbuilt_ends _ _ c.in-Ok.plan.end c.in-Ok.plan.report c.in-Ok.plan.text.items request asked none
-    (c.in-Ok.ensures.settles _ c.in-Some.ensures.some)
-
-pub returns-in-Ok-write_pieces-clause-write_fault : goal.returns-in-Ok-write_pieces-clause-write_fault
-returns-in-Ok-write_pieces-clause-write_fault g c fault =
-    absurd (not_a_write_fault _ _ c.in-Ok.plan.end c.in-Ok.plan.report c.in-Ok.plan.text.items
-    (c.in-Ok.ensures.settles _ c.in-Some.ensures.some) fault)
-
-pub returns-in-Ok-write_pieces-clause-reported : goal.returns-in-Ok-write_pieces-clause-reported
-returns-in-Ok-write_pieces-clause-reported g c product named told fault =
-    absurd (not_a_write_fault _ _ c.in-Ok.plan.end c.in-Ok.plan.report c.in-Ok.plan.text.items
-    (c.in-Ok.ensures.settles _ c.in-Some.ensures.some) fault)
-
-pub returns-in-Ok-write_pieces-clause-complete : goal.returns-in-Ok-write_pieces-clause-complete
-returns-in-Ok-write_pieces-clause-complete g c product named told same no_rise =
-    completes _ _ _ _ c.in-Ok.plan.end c.in-Ok.plan.report c.in-Ok.plan.text.items product
-    (c.in-Ok.ensures.settles _ c.in-Some.ensures.some) (c.in-Ok.ensures.failed _ c.in-Some.ensures.some) named told same
-
-pub returns-clause-written : goal.returns-clause-written
-returns-clause-written g c = record {
-  planned = c.in-Ok.plan.end;
-  text = c.in-Ok.plan.text.items;
-  not_empty = rw c.deref.ensures.value at c.in-Err-write_pieces.ensures.some_text;
-  settles = c.in-Ok.ensures.settles _ c.in-Some.ensures.some;
-  grew = rw c.deref.ensures.value at c.in-Err-write_pieces.ensures.written_at_fault;
-}
-
-pub returns-clause-failed : goal.returns-clause-failed
-returns-clause-failed g c =
-    c.in-Ok.ensures.failed _ c.in-Some.ensures.some
-    ∙ ap (λ names. g.H.Shelf.failed c.args.shelf.now ++ names)
-    (none_failed _ _ c.in-Ok.plan.end c.in-Ok.plan.report c.in-Ok.plan.text.items
-    (c.in-Ok.ensures.settles _ c.in-Some.ensures.some)
-    (rw c.deref.ensures.value at c.in-Err-write_pieces.ensures.some_text))
-
-pub returns-clause-reported : goal.returns-clause-reported
-returns-clause-reported g c product named told fault =
-    reported _ _ _ _ c.in-Ok.plan.end c.in-Ok.plan.report c.in-Ok.plan.text.items product
-    (c.in-Ok.ensures.settles _ c.in-Some.ensures.some)
-    (rw c.deref.ensures.value at c.in-Err-write_pieces.ensures.some_text)
-    (c.in-Ok.ensures.failed _ c.in-Some.ensures.some) told named
+pub returns-in-Err-clause-written : goal.returns-in-Err-clause-written
+returns-in-Err-clause-written g c =
+    inl (inr c.of-in-Err.ensures.end, c.of-in-Err.ensures.report, Keeps-refl (g.K.Sink.written c.args.sink.now))

@@ -1,6 +1,5 @@
 use Rattle.std.proofs.Common.{◌≡◌, ap, ◌∙◌, refl, [], ◌∷◌, ◌++◌}
 use Rattle.reserve_report.specs.declared.report.What.TheVariants as what
-use Rattle.reserve_report.specs.declared.report.Row.{Row}
 use Rattle.thiele_cli.proofs.ValueReports.{value_report_is_right, value_row}
 use Rattle.thiele_cli.proofs.valuation.value_report.Goals as goal
 

@@ -1,5 +1,5 @@
-use Rattle.thiele_cli.proofs.FilePlans.{breaks_later}
-use Rattle.thiele_cli.proofs.file.open_file.Goals as goal
+use Rattle.thiele_cli.proofs.Verdicts.{breaks_later}
+use Rattle.thiele_cli.proofs.verdict.verdict_on.Goals as goal
 
 pub returns-in-Err-Rule-admit : goal.returns-in-Err-Rule-admit
 returns-in-Err-Rule-admit c =

@@ -1,0 +1,53 @@
+-- From the answer of the words and the files to the end of a run, and back.
+use Rattle.std.proofs.Common.{◌≡◌, ℕ, List, inl, inr, ◌⊎◌}
+use Rattle.std.proofs.Common.{sym, ◌∙◌, subst}
+use Rattle.std.specs.Prelude.{Option, IsSome}
+use Rattle.reserve_report.specs.declared.report.Report.{Report}
+use Rattle.thiele_cli.specs.declared.answer.Answer.{Answer}
+use Rattle.thiele_cli.specs.declared.end.End.{End}
+use Rattle.thiele_cli.specs.declared.end.End.TheVariants as end
+use Rattle.thiele_cli.specs.Cases.{Files, Case, IsCase}
+use Rattle.thiele_cli.specs.Replies.{end_of, report_of, Answers}
+use Rattle.thiele_cli.specs.Ends.{IsFault, IsAnswer, LeadTo, LeadToReport, ComesBy}
+use Rattle.thiele_cli.specs.Outcome.{Delivers}
+use Rattle.thiele_cli.proofs.OneCase.{one_case}
+
+-- over told files the answer is one of any case that the words and the files come to
+of_case : (files : Files) (words : List (List ℕ)) (given : Answer) (case : Case) → IsSome files
+    → IsAnswer files words given → IsCase files words case → Answers case given
+of_case files words given case told a holds =
+    subst (λ x. Answers x given) (one_case files words a.case case told a.holds holds) a.says
+
+-- and its end is the one that this case leads to
+one_end : (files : Files) (words : List (List ℕ)) (given : Answer) (own : End) → IsSome files
+    → IsAnswer files words given → LeadTo files words own → end_of given ≡ own
+one_end files words given own told a cause = cause.leads given (of_case files words given cause.case told a cause.holds)
+
+-- an end that is no fault comes by its cases
+pub comes_by : (files : Files) (words failed now : List (List ℕ)) (given : Answer) (reached : End)
+    (old new : Option (List ℕ)) (own : End) → IsAnswer files words given → Delivers given reached old new
+    → ¬ IsFault own → ComesBy files words failed now reached own
+comes_by files words failed now given reached old new own a (inl d) sound = record {
+  only = λ e. record { given = given; is_answer = a; ends = sym e ∙ d.0 };
+  always = λ told same cause. inl (d.0 ∙ one_end files words given own told a cause);
+}
+comes_by files words failed now given reached old new own a (inr d) sound = record {
+  only = λ e. absurd (sound (subst IsFault (sym d.0 ∙ e) tt));
+  always = λ told same cause. inr (inr d.0);
+}
+
+-- a report is handed back
+pub reported : (files : Files) (words : List (List ℕ)) (given : Answer) (report : Option Report)
+    → IsAnswer files words given → report ≡ report_of given → LeadToReport files words → IsSome files → IsSome report
+reported files words given report a is cause told =
+    subst IsSome (sym is) (cause.reports given (of_case files words given cause.case told a cause.holds))
+
+-- with no fault of the sink each case has its end
+pub completes : (files : Files) (words : List (List ℕ)) (given : Answer) (reached own : End)
+    (old new : Option (List ℕ)) (Faulty : Type 0) → IsAnswer files words given → Delivers given reached old new
+    → LeadTo files words own → IsSome files → (reached ≡ end.WriteFault → Faulty) → ¬ Faulty
+    → (reached ≡ own) ⊎ (reached ≡ end.Memory)
+completes files words given reached own old new Faulty a (inl d) cause told faulty sound =
+    inl (d.0 ∙ one_end files words given own told a cause)
+completes files words given reached own old new Faulty a (inr d) cause told faulty sound =
+    absurd (sound (faulty d.0))

@@ -1,0 +1,31 @@
+-- How a refusal ends a run, and the line that tells it. This product's own.
+use Rattle.std.specs.Prelude.{ℕ, List, ◌++◌, codes, decimal}
+use Rattle.product_model.specs.declared.breaks.RuleBreak.{RuleBreak}
+use Rattle.thiele_cli.specs.declared.end.End.{End}
+use Rattle.thiele_cli.specs.declared.end.End.TheVariants as end
+use Rattle.thiele_cli.specs.declared.refusal.Refusal.{Refusal}
+use Rattle.thiele_cli.specs.declared.refusal.Refusal.TheVariants as refusal
+
+-- the end of a run that is refused
+abbrev pub refused_end : Refusal → End
+refused_end refusal.Words = end.BadWords
+refused_end refusal.Unbuilt = end.NotBuilt
+refused_end (refusal.Length seen) = end.TooLong seen
+refused_end refusal.Toml = end.NotToml
+refused_end (refusal.Rule found) = end.Rule found
+
+-- refused length SEEN
+abbrev pub length_line : ℕ → List ℕ
+length_line seen = codes "refused length " ++ decimal seen ++ codes "\n"
+
+-- refused rule K place P
+abbrev pub rule_line : RuleBreak → List ℕ
+rule_line found = codes "refused rule " ++ decimal found.rule ++ codes " place " ++ decimal found.place ++ codes "\n"
+
+-- the line of a refusal
+abbrev pub line_of : Refusal → List ℕ
+line_of refusal.Words = codes "refused words\n"
+line_of refusal.Unbuilt = codes "refused unbuilt\n"
+line_of (refusal.Length seen) = length_line seen
+line_of refusal.Toml = codes "refused toml\n"
+line_of (refusal.Rule found) = rule_line found
