@@ -1,6 +1,6 @@
 // Files that are written out here. The expected places are worked out by hand from the rules.
 use crate::*;
-use product_model::RuleBreak;
+use rule_breaks::RuleBreak;
 use std::alloc::Global;
 use std::test::Fail;
 

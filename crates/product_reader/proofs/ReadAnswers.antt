@@ -5,14 +5,14 @@ use Rattle.std.proofs.lemmas.Option.{none-some}
 use Rattle.toml.specs.Data.{Members}
 use Rattle.model_specs.specs.Product.{Product}
 use Rattle.model_specs.specs.ValuationRules as model
-use Rattle.product_model.specs.declared.breaks.RuleBreak.{RuleBreak}
+use Rattle.rule_breaks.specs.declared.breaks.RuleBreak.{RuleBreak}
 use Rattle.product_file.specs.Reads.{reads, product_of, product_unless, broken_in_tree}
 use Rattle.product_file.specs.Verdict.{ReadsAs, ReadsProduct, BreaksInTree, IsNotToml}
 use Rattle.product_reader.specs.declared.read.ReadError.{ReadError}
 use Rattle.product_reader.specs.declared.read.ReadError.TheVariants.{NotToml, Rule, Memory}
 use Rattle.product_reader.specs.Readings.{IsReadingOf}
 use Rattle.product_reader.specs.Refusals.{ComesWhere}
-use Rattle.file_checks.specs.Broken.{break_of}
+use Rattle.rule_breaks.specs.Breaks.{break_of}
 
 -- no rule is broken: the product is read
 pub reads_product : (tree : Members) (product : Product) → broken_in_tree tree ≡ None → product ≡ product_of tree

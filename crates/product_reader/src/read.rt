@@ -2,7 +2,7 @@
 
 ghost use Rattle.std.specs.Prelude.{◌≡◌, IfOk};
 ghost use Rattle.toml.specs.View.{table_view};
-ghost use Rattle.file_checks.specs.Broken.{break_of};
+ghost use Rattle.rule_breaks.specs.Breaks.{break_of};
 ghost use Rattle.product_file.specs.Reads.{reads};
 ghost use Rattle.product_file.specs.Verdict.{ReadsProduct, BreaksInTree, IsNotToml};
 ghost use Rattle.product_reader.specs.Readings.{IsReadingOf};
@@ -10,7 +10,8 @@ ghost use Rattle.product_reader.specs.Refusals.{ComesWhere};
 
 use crate::product::product_from;
 use file_checks::first_break;
-use product_model::{Product, RuleBreak};
+use product_model::Product;
+use rule_breaks::RuleBreak;
 use std::alloc::{AllocError, Global};
 use thiserror::Error;
 use toml::Table;

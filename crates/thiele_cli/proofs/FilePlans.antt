@@ -4,8 +4,8 @@ use Rattle.std.specs.Prelude.{Result, Ok, Err, IfOk, Option, Some, None}
 use Rattle.model_specs.specs.Product.{Product}
 use Rattle.model_specs.specs.ValuationRules as model
 use Rattle.model_specs.specs.ValuationRules.{first_broken}
-use Rattle.file_checks.specs.Broken.{break_of}
-use Rattle.product_model.specs.declared.breaks.RuleBreak.{RuleBreak}
+use Rattle.rule_breaks.specs.Breaks.{break_of}
+use Rattle.rule_breaks.specs.declared.breaks.RuleBreak.{RuleBreak}
 use Rattle.product_file.specs.Verdict.{IsNotToml, IsValid, Breaks, ReadsProduct}
 use Rattle.reserve_report.specs.declared.report.Report.{Report}
 use Rattle.reserve_report.specs.CheckText.{check_text}

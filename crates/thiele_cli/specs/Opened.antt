@@ -1,6 +1,6 @@
 -- What a file that was read is.
 use Rattle.std.specs.Prelude.{ℕ, List}
-use Rattle.file_checks.specs.Broken.{break_of}
+use Rattle.rule_breaks.specs.Breaks.{break_of}
 use Rattle.product_file.specs.Verdict.{IsNotToml, IsValid, Breaks}
 use Rattle.thiele_cli.specs.declared.file.Opened.{Opened}
 use Rattle.thiele_cli.specs.declared.file.Opened.TheVariants.{Admitted, NotToml, Rule}

@@ -2,7 +2,7 @@
 ghost use Rattle.std.specs.Prelude.{◌≡◌};
 ghost use Rattle.thiele_cli.specs.Ends.{status_of};
 
-use product_model::RuleBreak;
+use rule_breaks::RuleBreak;
 use reserve_report::Report;
 
 /// How a run ended. `run` says when each end comes.

@@ -4,7 +4,7 @@ ghost use Rattle.thiele_cli.specs.Opened.{IsOpened};
 
 use crate::end::End;
 use crate::plan::Plan;
-use product_model::RuleBreak;
+use rule_breaks::RuleBreak;
 use product_reader::{ReadError, read_product};
 use rate_bounds::{AdmitError, Admitted, admit};
 use reserve_report::push_decimal;

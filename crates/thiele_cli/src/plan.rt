@@ -15,7 +15,7 @@ use crate::valuation::value_report;
 use command_words::Command;
 use io_ports::{FetchError, Shelf};
 use plain_value::plain_numbers;
-use product_model::RuleBreak;
+use rule_breaks::RuleBreak;
 use rate_bounds::Admitted;
 use reserve_report::{Report, check_bytes, push_decimal, report_bytes};
 use std::alloc::{AllocError, Global};

@@ -4,7 +4,7 @@ ghost use Rattle.std.specs.Io.KnownBytes.{Appends};
 ghost use Rattle.io_ports.specs.Growth.{AppendsPrefix};
 ghost use Rattle.io_ports.specs.Counts.{Rose};
 ghost use Rattle.model_specs.specs.Product.{Product};
-ghost use Rattle.product_model.specs.declared.breaks.RuleBreak.{RuleBreak};
+ghost use Rattle.rule_breaks.specs.declared.breaks.RuleBreak.{RuleBreak};
 ghost use Rattle.command_words.specs.Readings.{words_of, Request, AreReadAs, HaveReading};
 ghost use Rattle.thiele_cli.specs.Cases.{IsCase, IsUnbuilt};
 ghost use Rattle.thiele_cli.specs.Cases as case;

@@ -3,7 +3,7 @@ use Rattle.toml.specs.Data.{Members}
 use Rattle.toml.specs.View.{table_view}
 use Rattle.model_specs.specs.ValuationRules.{first_given}
 use Rattle.product_file.specs.Reads.{broken_in_tree}
-use Rattle.product_model.specs.declared.breaks.RuleBreak.{RuleBreak}
+use Rattle.rule_breaks.specs.declared.breaks.RuleBreak.{RuleBreak}
 use Rattle.file_checks.specs.Broken.{break_of, head_breaks, list_breaks, ObeysHead, ObeysLists, ObeysRules}
 use Rattle.file_checks.proofs.Given.{given_first, given_second, IfOk-follows}
 use Rattle.file_checks.proofs.verdict.first_break.Goals as goal
