@@ -8,9 +8,9 @@ ghost use Rattle.rule_breaks.specs.Breaks.{break_of};
 ghost use Rattle.file_checks.specs.Broken.{head_breaks, list_breaks, ObeysHead, ObeysLists, ObeysRules};
 
 use crate::bounds::{amount_break, size_break};
-use crate::head::{denominator_break, format_break, key_break, term_break};
+use crate::head::{denominator_break, format_break, key_break, start_break, term_break};
 use crate::lump::lump_break;
-use crate::names::{name_break, start_break};
+use crate::names::name_break;
 use crate::pattern::{pattern_break, payer_break};
 use crate::pieces::curve_break;
 use crate::steps::payment_break;

@@ -24,10 +24,6 @@ pub reads_break : (tree : Members) (found : model.RuleBreak) → broken_in_tree 
     → reads tree ≡ Err found
 reads_break tree found some = ap (product_unless (product_of tree)) some
 
--- the bytes have one tree
-one_tree : (text : List ℕ) (a b : Members) → ReadsAs text a → ReadsAs text b → a ≡ b
-one_tree text a b x y = cc (x.document, y.document)
-
 -- from a found break to the tree's
 pub unbroken_of : (breaks : Option model.RuleBreak) (found : Option RuleBreak) → option_map break_of found ≡ breaks
     → found ≡ None → breaks ≡ None
@@ -61,7 +57,8 @@ same-rule a b e = cc e
 -- what the bytes read as, by any of their trees
 reading-of : (text : List ℕ) (tree other : Members) (r : Result Product model.RuleBreak) → ReadsAs text tree
     → ReadsAs text other → reads other ≡ r → reads tree ≡ r
-reading-of text tree other r told again h = ap reads (one_tree text tree other told again) ∙ h
+reading-of text tree other r told again h =
+    let same : tree ≡ other = cc (told.document, again.document) in ap reads same ∙ h
 
 -- the answers about the bytes of a tree
 pub ok_of_tree : (text : List ℕ) (tree : Members) (r : Result Product ReadError) → ReadsAs text tree
@@ -93,7 +90,12 @@ rule_of_tree text tree (Ok p) found told h =
 rule_of_tree text tree (Err NotToml) found told h = absurd h
 rule_of_tree text tree (Err (Rule other)) found told h =
     record {
-      only = λ e. record { tree = tree; reads_as = told; broken = refused-by (reads tree) other found h (same-rule other found e) };
+      only = λ e. record {
+        tree = tree;
+        reads_as = told;
+        broken = refused-by (reads tree) other found h
+            (same-rule other found e);
+      };
       always = λ b. inl (ap (λ f. Err (Rule f)) (same-refusal (reads tree) other found h
           (reading-of text tree b.tree (Err (break_of found)) told b.reads_as b.broken)));
     }
