@@ -1,8 +1,10 @@
 -- Rules 9 and 11 of a list, item by item, and what the rules before them say of its starts.
-use Rattle.std.proofs.Common.{◌≡◌, ℕ, zero, suc, ◌+◌, ◌<◌, ◌≤◌, pos, Bool, true, false, not, cond, codes, List, [], ◌∷◌, ◌++◌, map}
-use Rattle.std.proofs.Common.{length, get_or, Option, Some, None, is_some, unwrap_or, option_and_then, refl, ap, sym, ◌∙◌, subst, arith}
+use Rattle.std.proofs.Common.{◌≡◌, ℕ, zero, suc, ◌+◌, ◌<◌, ◌≤◌, pos, Bool, true, false, not, cond, codes, List, []}
+use Rattle.std.proofs.Common.{◌∷◌, ◌++◌, map}
+use Rattle.std.proofs.Common.{length, get_or, Option, Some, None, is_some, unwrap_or, option_and_then, refl, ap, sym}
+use Rattle.std.proofs.Common.{◌∙◌, subst, arith}
 use mathlib.Core.Path.{ap₂}
-use Rattle.std.proofs.lemmas.Bool.{and_parts, cases_Bool, false≢true}
+use Rattle.std.proofs.lemmas.Bool.{and_parts, false≢true}
 use Rattle.std.proofs.lemmas.List.{length-map, get_or-map}
 use Rattle.toml.specs.Data.{Data, Members, boolean, as_array, get_member, no_items}
 use Rattle.model_specs.specs.Whole.{list_of, natural_part}
@@ -10,18 +12,21 @@ use Rattle.model_specs.specs.Curve.{Piece, zero_piece}
 use Rattle.model_specs.specs.Product.{Step}
 use Rattle.model_specs.specs.Payments.{constant_step}
 use Rattle.model_specs.specs.RecordRules.{months_of, piece_starts, step_starts}
-use Rattle.product_file.specs.Checks.{first_failed, place_in, first_failed_from, first_failed_of_lists}
-use Rattle.product_file.specs.Members.{whole_of, item_at, listed, items_of, members_of, is_absent}
+use Rattle.product_file.specs.Checks.{first_failed, first_failed_from, first_failed_of_lists}
+use Rattle.product_file.specs.Members.{whole_of, item_at, listed, members_of, is_absent}
 use Rattle.product_file.specs.TransitionRule.{transition_items}
-use Rattle.product_file.specs.HeadRules.{is_format_1, rule_4}
+use Rattle.product_file.specs.HeadRules.{rule_4}
 use Rattle.product_file.specs.CurveRules.{most_coefficients, is_piece, is_in_order, start_of, not_empty, curve_items}
-use Rattle.product_file.specs.CurveRules.{piece_of, months_of_term, is_bounded, rule_8_of, rule_8, rule_9_of, coefficients_of}
-use Rattle.product_file.specs.PaymentRules.{is_step, step_of, is_bounded_step, steps_rule_10, steps_rule_11, sum_rule_10}
-use Rattle.product_file.specs.PaymentRules.{sum_items, steps_items, sojourn_items, sojourn_rule_10, is_good_sojourn, rule_10}
-use Rattle.file_checks.specs.Lists.{AreInOrder, starts_of, is_good_piece, is_good_step, is_bounded_piece, is_bounded_step_at}
-use Rattle.file_checks.proofs.Checks.{not_empty-some, holds_at, passed_at, length-list_of, list_of-at, place_none}
+use Rattle.product_file.specs.CurveRules.{piece_of, months_of_term, is_bounded, rule_8_of, rule_8, rule_9_of}
+use Rattle.product_file.specs.PaymentRules.{is_step, step_of, is_bounded_step, steps_rule_10, steps_rule_11}
+use Rattle.product_file.specs.PaymentRules.{sum_rule_10}
+use Rattle.product_file.specs.PaymentRules.{sum_items, steps_items, sojourn_items, sojourn_rule_10, is_good_sojourn}
+use Rattle.product_file.specs.PaymentRules.{rule_10}
+use Rattle.file_checks.specs.Lists.{AreInOrder, starts_of, is_good_piece, is_good_step, is_bounded_piece}
+use Rattle.file_checks.specs.Lists.{is_bounded_step_at}
+use Rattle.model_laws.proofs.ListsByPlace.{at-list_of, length-list_of}
+use Rattle.file_checks.proofs.Checks.{not_empty-some, holds_at, place_none}
 use Rattle.file_checks.proofs.InOrder.{few_in_order, term-le}
-use Rattle.file_checks.proofs.StepLemmas.{good_from}
 
 -- a list that obeys its rule passes each check
 order_from : (n i : ℕ) (check : ℕ → Bool) → first_failed (not_empty n check) ≡ None → i < n → check i ≡ true
@@ -31,7 +36,8 @@ order_from n i check none inside =
 pub pieces_in_order : (tree : Members) (items : List Data) → first_failed (rule_8_of tree items) ≡ None
     → AreInOrder tree items
 pieces_in_order tree items none = λ i inside.
-    (and_parts (is_piece (most_coefficients tree) (item_at items i)) (is_in_order (whole_of (codes "months") tree) items i)
+    (and_parts (is_piece (most_coefficients tree) (item_at items i))
+    (is_in_order (whole_of (codes "months") tree) items i)
     (order_from (length items) i (is_good_piece tree items) none inside)).1
 
 pub steps_in_order : (tree : Members) (items : List Data) → first_failed (steps_rule_10 tree items) ≡ None
@@ -41,11 +47,13 @@ steps_in_order tree items none = λ i inside.
     (order_from (length items) i (is_good_step tree items) none inside)).1
 
 -- nothing at a key has no items
-absent_is_empty : (o : Option Data) → not (is_some o) ≡ true → listed (unwrap_or (option_and_then as_array o) no_items) ≡ []
+absent_is_empty : (o : Option Data) → not (is_some o) ≡ true
+    → listed (unwrap_or (option_and_then as_array o) no_items) ≡ []
 absent_is_empty None h = refl
 absent_is_empty (Some d) h = absurd (false≢true h)
 
-pub sum_in_order : (tree : Members) (d : Data) → first_failed (sum_rule_10 tree d) ≡ None → AreInOrder tree (sum_items d)
+pub sum_in_order : (tree : Members) (d : Data) → first_failed (sum_rule_10 tree d) ≡ None
+    → AreInOrder tree (sum_items d)
 sum_in_order tree d none = by_absence (is_absent (codes "sum") (members_of d)) refl none
   where
     by_absence : (b : Bool) → is_absent (codes "sum") (members_of d) ≡ b
@@ -68,9 +76,11 @@ sojourn_in_order tree s none = by_good (is_good_sojourn tree s) none
 from-none_at : (base : ℕ) (lists : List (List Bool)) (k : ℕ) → first_failed_from base lists ≡ None → k < length lists
     → first_failed (get_or lists k []) ≡ None
 from-none_at base [] k none inside = absurd (omega arith)
-from-none_at base (x ∷ xs) zero none inside = (place_none base (first_failed x) (first_failed_from (suc base) xs) none).0
+from-none_at base (x ∷ xs) zero none inside =
+    (place_none base (first_failed x) (first_failed_from (suc base) xs) none).0
 from-none_at base (x ∷ xs) (suc k) none inside =
-    from-none_at (suc base) xs k (place_none base (first_failed x) (first_failed_from (suc base) xs) none).1 (omega arith)
+    from-none_at (suc base) xs k (place_none base (first_failed x) (first_failed_from (suc base) xs) none).1
+    (omega arith)
 
 from-both : (base : ℕ) (xs ys : List (List Bool)) → first_failed_from base (xs ++ ys) ≡ None
     → (first_failed_from base xs ≡ None) × (first_failed_from (base + length xs) ys ≡ None)
@@ -107,29 +117,27 @@ pub sojourn_obeys : (tree : Members) (s : ℕ) → first_failed_of_lists (rule_1
     → s < length (sojourn_items tree) → first_failed (sojourn_rule_10 tree s) ≡ None
 sojourn_obeys tree s none inside =
     let count = length (sojourn_items tree) in
-    ap first_failed (sym (list_of-at count s (sojourn_rule_10 tree) [] inside))
-    ∙ from-none_at (0 + length (map (sum_rule_10 tree) (transition_items tree))) (list_of count (sojourn_rule_10 tree)) s
+    ap first_failed (sym (at-list_of count (sojourn_rule_10 tree) s [] inside))
+    ∙ from-none_at (0 + length (map (sum_rule_10 tree) (transition_items tree)))
+    (list_of count (sojourn_rule_10 tree)) s
     (payments_obey tree none).1 (omega (arith, length-list_of count (sojourn_rule_10 tree)))
 
 -- lists of equal values are equal
 list_of-same : {A : Type 0} (n : ℕ) (f g : ℕ → A) → ((i : ℕ) → i < n → f i ≡ g i) → list_of n f ≡ list_of n g
 list_of-same zero f g same = refl
 list_of-same (suc n) f g same =
-    ap₂ (λ x xs. x ∷ xs) (same 0 (omega arith)) (list_of-same n (λ i. f (suc i)) (λ i. g (suc i)) (λ i below. same (suc i) (omega arith)))
+    ap₂ (λ x xs. x ∷ xs) (same 0 (omega arith))
+    (list_of-same n (λ i. f (suc i)) (λ i. g (suc i)) (λ i below. same (suc i) (omega arith)))
 
 -- the starts of the pieces and steps of the product are those of the file
 starts_of-pieces : (items : List Data) → piece_starts (map piece_of items) ≡ starts_of items
 starts_of-pieces [] = refl
 starts_of-pieces (d ∷ items) = ap (λ more. natural_part (start_of d) ∷ more) (starts_of-pieces items)
 
-step_of-from : (b : Bool) (from : ℕ) (one other : Step) → one.from ≡ from → other.from ≡ from → (cond b one other).from ≡ from
-step_of-from true from one other h k = h
-step_of-from false from one other h k = k
-
 starts_of-steps : (tree : Members) (items : List Data) → step_starts (map (step_of tree) items) ≡ starts_of items
 starts_of-steps tree [] = refl
 starts_of-steps tree (d ∷ items) =
-    ap₂ (λ x xs. x ∷ xs) (step_of-from (is_format_1 tree) (natural_part (start_of d)) _ _ refl refl) (starts_of-steps tree items)
+    ap (λ more. natural_part (start_of d) ∷ more) (starts_of-steps tree items)
 
 pub rule_9_is : (tree : Members) (items : List Data)
     → list_of (length items) (is_bounded_piece tree items) ≡ rule_9_of tree items

@@ -1,6 +1,6 @@
 -- Starts in order rise from 0 and are below the term, so there are at most as many as the term has months.
-use Rattle.std.proofs.Common.{◌≡◌, ◌≢◌, ℕ, zero, suc, ◌-◌, ◌<◌, ◌≤◌, ℤ, pos, negsuc, ◌≤ℤ◌, ◌<ℤ◌, Bool, true, ◌&&◌, codes, List}
-use Rattle.std.proofs.Common.{None, refl, ap, sym, ◌∙◌, arith}
+use Rattle.std.proofs.Common.{◌≡◌, ◌≢◌, ℕ, zero, suc, ◌-◌, ◌<◌, ◌≤◌, ℤ, pos, negsuc, ◌≤ℤ◌, ◌<ℤ◌, true, ◌&&◌}
+use Rattle.std.proofs.Common.{codes, List, None, refl, ap, ◌∙◌, arith}
 use Rattle.std.specs.Prelude.{int_le, int_lt}
 use Rattle.std.proofs.lemmas.Bool.{and_parts}
 use Rattle.std.proofs.lemmas.Int.{ints}
@@ -35,7 +35,8 @@ start-above : (months : ℤ) (items : List Data) (k : ℕ) → ((i : ℕ) → i 
     → pos k ≤ℤ start_of (item_at items k)
 start-above months items zero ordered =
     let start = start_of (item_at items 0) in
-    let all = and_parts (int_le (pos 0) start && int_le start (pos 0)) (int_lt start months) (ordered 0 (omega arith)) in
+    let all = and_parts (int_le (pos 0) start && int_le start (pos 0)) (int_lt start months)
+    (ordered 0 (omega arith)) in
     within_from_test _ _ (and_parts (int_le (pos 0) start) (int_le start (pos 0)) all.0).0
 start-above months items (suc k) ordered =
     let start = start_of (item_at items (suc k)) in
@@ -62,7 +63,8 @@ pub term-le : (tree : Members) → first_failed (rule_4 tree) ≡ None
     → whole_of (codes "months") tree ≤ℤ pos 1200
 term-le tree none =
     let months = whole_of (codes "months") tree in
-    within_from_test _ _ (and_parts (int_le (pos 1) months) (int_le months (pos 1200)) (passed_at (rule_4 tree) 0 none (omega arith))).1
+    within_from_test _ _ (and_parts (int_le (pos 1) months) (int_le months (pos 1200))
+    (passed_at (rule_4 tree) 0 none (omega arith))).1
 
 pub few_in_order : (months : ℤ) (items : List Data) (i : ℕ) → months ≤ℤ pos 1200
     → ((k : ℕ) → k < i → is_in_order months items k ≡ true) → i ≤ 1200

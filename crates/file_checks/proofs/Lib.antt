@@ -2,8 +2,8 @@ pub mod BoundLemmas
 pub mod Checks
 pub mod Given
 pub mod InOrder
+pub mod KeyLemmas
 pub mod LumpLemmas
-pub mod MembersLemmas
 pub mod PayerLemmas
 pub mod PieceLemmas
 pub mod Pigeonhole

@@ -1,7 +1,8 @@
 -- The flags of dates and states tell whether a lump comes again.
-use Rattle.std.proofs.Common.{◌≡◌, ◌≢◌, ℕ, zero, suc, ◌+◌, ◌*◌, ◌^◌, ◌<◌, ◌≤◌, ℤ, pos, negsuc, ◌≤ℤ◌, eqb, nat_le, Bool, true, false}
-use Rattle.std.proofs.Common.{not, ◌&&◌, ◌||◌, codes, List, [], ◌∷◌, take, length, get_or, set, None, is_some, below_more}
-use Rattle.std.proofs.Common.{refl, ap, sym, ◌∙◌, inl, inr, ◌⊎◌, arith}
+use Rattle.std.proofs.Common.{◌≡◌, ◌≢◌, ℕ, suc, ◌+◌, ◌*◌, ◌<◌, ◌≤◌, ℤ, pos, negsuc, ◌≤ℤ◌, eqb, nat_le}
+use Rattle.std.proofs.Common.{Bool, true, false}
+use Rattle.std.proofs.Common.{not, ◌&&◌, ◌||◌, codes, List, [], ◌∷◌, take, length, get_or, set, None, is_some}
+use Rattle.std.proofs.Common.{below_more, refl, ap, sym, ◌∙◌, inl, inr, arith}
 use mathlib.Core.Path.{ap₂}
 use Rattle.std.specs.Prelude.{int_le, unsigned_abs}
 use Rattle.std.specs.List.{list_any}
@@ -12,10 +13,11 @@ use Rattle.std.proofs.lemmas.Int.{ints}
 use Rattle.std.proofs.lemmas.List.{length-take-le, get_or-take, get_or-set_same, get_or-set_other, length-set}
 use Rattle.std.proofs.lemmas.List.Folds.{list_any_more}
 use Rattle.toml.specs.Data.{Data, Members, boolean}
+use Rattle.named_numbers.specs.Numbers.{most_lump}
 use Rattle.model_specs.specs.Whole.{natural_part}
 use Rattle.product_file.specs.Checks.{first_failed}
 use Rattle.product_file.specs.Members.{whole_of, members_of, item_at}
-use Rattle.product_file.specs.HeadRules.{rule_3, rule_4, is_from_to, state_names}
+use Rattle.product_file.specs.HeadRules.{rule_3, rule_4, is_from_to}
 use Rattle.product_file.specs.TransitionRule.{state_at, state_index, is_same_pair}
 use Rattle.product_file.specs.CurveRules.{months_of_term}
 use Rattle.product_file.specs.LumpRule.{lump_items, is_lump, is_good_lump, lump_of, date_and_state}
@@ -42,7 +44,7 @@ fair_parts tree d fair =
     let month = whole_of (codes "month") (members_of d) in
     let dated = is_from_to (pos 0) months month in
     let named = is_some (state_at tree (codes "state") d) in
-    let small = nat_le (unsigned_abs (whole_of (codes "amount") (members_of d))) (10 ^ 12) in
+    let small = nat_le (unsigned_abs (whole_of (codes "amount") (members_of d))) most_lump in
     let all = and_parts (is_lump d && dated && named) small fair in
     let first = and_parts (is_lump d && dated) named all.0 in
     let parts = and_parts (is_lump d) dated first.0 in
@@ -71,13 +73,16 @@ within m n s h k = omega arith
 pub slot_of-within : (tree : Members) (d : Data) → first_failed (rule_3 tree) ≡ None → is_fair_lump tree d ≡ true
     → slot_of tree d < slot_count tree
 slot_of-within tree d names fair =
-    within (natural_part (whole_of (codes "month") (members_of d))) (months_of_term tree) (state_index tree (codes "state") d)
-    (natural_part-le (whole_of (codes "month") (members_of d)) (whole_of (codes "months") tree) (fair_parts tree d fair).date) (state-below tree d names fair)
+    within (natural_part (whole_of (codes "month") (members_of d))) (months_of_term tree)
+    (state_index tree (codes "state") d)
+    (natural_part-le (whole_of (codes "month") (members_of d)) (whole_of (codes "months") tree)
+    (fair_parts tree d fair).date) (state-below tree d names fair)
 
 -- an earlier lump has the date and the state of the one at a place
 abbrev repeats : Members → ℕ → Bool
 repeats tree k =
-    list_any (λ e. is_same_pair (date_and_state (lump_of tree (item_at (lump_items tree) k))) (date_and_state (lump_of tree e)))
+    list_any (λ e. is_same_pair (date_and_state (lump_of tree (item_at (lump_items tree) k)))
+    (date_and_state (lump_of tree e)))
     (take k (lump_items tree))
 
 good_is : (tree : Members) (k : ℕ)
@@ -118,7 +123,8 @@ repeats_is tree k names inside good fair =
     same_at : (e : Data) → is_fair_lump tree e ≡ true
         → is_same_pair (date_and_state (lump_of tree (item_at (lump_items tree) k))) (date_and_state (lump_of tree e))
         ≡ eqb (slot_of tree e) (slot_of tree (item_at (lump_items tree) k))
-    same_at e fair_e = same_slot _ _ _ _ (state-below tree (item_at (lump_items tree) k) names fair) (state-below tree e names fair_e)
+    same_at e fair_e = same_slot _ _ _ _ (state-below tree (item_at (lump_items tree) k) names fair)
+        (state-below tree e names fair_e)
 
 -- a lump that is not fair, or comes again, is not good
 pub unfair_is_bad : (tree : Members) (k : ℕ) → is_fair_lump tree (item_at (lump_items tree) k) ≡ false
@@ -158,13 +164,17 @@ flag_more tree seen k s q inside is below flag =
     let more = list_any_more (λ e. eqb (slot_of tree e) q) (lump_items tree) k (boolean false) inside in
     elim (cases_eq q s) [
       | inl same ↦
-          let here : get_or (set seen s true) q false ≡ true = rw same (get_or-set_same seen s true false (rw (← same) below)) in
+          let here : get_or (set seen s true) q false ≡ true =
+          rw same (get_or-set_same seen s true false (rw (← same) below)) in
           let hit : eqb (slot_of tree (item_at (lump_items tree) k)) q ≡ true = equal_from _ _ (sym is ∙ sym same) in
-          here ∙ sym (more ∙ ap (λ b. list_any (λ e. eqb (slot_of tree e) q) (take k (lump_items tree)) || b) hit ∙ or-true _)
+          here ∙ sym (more ∙ ap (λ b. list_any (λ e. eqb (slot_of tree e) q) (take k (lump_items tree)) || b) hit
+          ∙ or-true _)
       | inr other ↦
-          let miss : eqb (slot_of tree (item_at (lump_items tree) k)) q ≡ false = differ_from _ _ (λ e. other (sym (is ∙ e))) in
+          let miss : eqb (slot_of tree (item_at (lump_items tree) k)) q ≡ false =
+          differ_from _ _ (λ e. other (sym (is ∙ e))) in
           get_or-set_other seen s q true false other ∙ flag
-          ∙ sym (more ∙ ap (λ b. list_any (λ e. eqb (slot_of tree e) q) (take k (lump_items tree)) || b) miss ∙ or-false _)
+          ∙ sym (more ∙ ap (λ b. list_any (λ e. eqb (slot_of tree e) q) (take k (lump_items tree)) || b) miss
+          ∙ or-false _)
     ]
   where
     equal_from : (a b : ℕ) → a ≡ b → eqb a b ≡ true
@@ -199,7 +209,8 @@ other_slot tree i k names before inside good =
     let slot = slot_of tree (item_at items k) in
     let new = not-true (repeats tree k)
     (and_parts (is_fair_lump tree (item_at items k)) (not (repeats tree k)) (good k (omega arith))).1 in
-    let none = sym (repeats_is tree k names inside (λ j below. good j (omega arith)) (fair_from_good tree k (good k (omega arith)))) ∙ new in
+    let none = sym (repeats_is tree k names inside (λ j below. good j (omega arith))
+    (fair_from_good tree k (good k (omega arith)))) ∙ new in
     let long : i < length (take k items) = omega (arith, length-take-le k items inside) in
     let here = none_at (λ e. eqb (slot_of tree e) slot) (take k items) i (boolean false) none long in
     differ _ slot (ap (λ e. eqb (slot_of tree e) slot) (sym (get_or-take k items i (boolean false) before)) ∙ here)

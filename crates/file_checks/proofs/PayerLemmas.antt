@@ -1,11 +1,11 @@
 -- Good payers name different states, so there are few of them.
-use Rattle.std.proofs.Common.{◌≡◌, ◌≢◌, ℕ, zero, suc, ◌<◌, ◌≤◌, Bool, true, false, not, ◌&&◌, ◌==◌, eqb, List, map, take}
-use Rattle.std.proofs.Common.{length, get_or, None, is_some, refl, ap, sym, ◌∙◌, arith}
+use Rattle.std.proofs.Common.{◌≡◌, ◌≢◌, ℕ, zero, suc, ◌<◌, ◌≤◌, true, false, not, ◌&&◌, ◌==◌, take}
+use Rattle.std.proofs.Common.{length, None, is_some, refl, ap, sym, ◌∙◌, arith}
 use Rattle.std.specs.List.{list_any}
 use Rattle.std.proofs.lemmas.List.{length-take-le, get_or-take}
 use Rattle.std.proofs.lemmas.Bool.{and_parts, not-true}
 use Rattle.std.proofs.lemmas.Bool.Decides.{nat_tests}
-use Rattle.toml.specs.Data.{Data, Members, boolean, as_str}
+use Rattle.toml.specs.Data.{Members, boolean, as_str}
 use Rattle.product_file.specs.Checks.{first_failed}
 use Rattle.product_file.specs.Members.{item_at}
 use Rattle.product_file.specs.HeadRules.{rule_3}
@@ -18,7 +18,8 @@ use Rattle.file_checks.proofs.TransitionLemmas.{none_at}
 -- what a good payer at a place says
 record IsGood (tree : Members) (i : ℕ) : Type 0 where
   named : is_some (payer_state tree (item_at (payer_items tree) i)) ≡ true
-  new : list_any (λ e. payer_index tree e == payer_index tree (item_at (payer_items tree) i)) (take i (payer_items tree)) ≡ false
+  new : list_any (λ e. payer_index tree e == payer_index tree (item_at (payer_items tree) i))
+      (take i (payer_items tree)) ≡ false
 
 good_parts : (tree : Members) (i : ℕ) → is_good_payer tree i ≡ true → IsGood tree i
 good_parts tree i good =

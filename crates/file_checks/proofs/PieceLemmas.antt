@@ -16,7 +16,8 @@ pub few_pieces : (tree : Members) (items : List Data) (i : ℕ) → first_failed
 few_pieces tree items i term good =
     let months = whole_of (codes "months") tree in
     few_in_order months items i (term-le tree term)
-    (λ k below. (and_parts (is_piece (most_coefficients tree) (item_at items k)) (is_in_order months items k) (good k below)).1)
+    (λ k below. (and_parts (is_piece (most_coefficients tree) (item_at items k)) (is_in_order months items k)
+    (good k below)).1)
 
 -- there is a curve more than there are transitions
 pub length-curves : (tree : Members) → length (curve_items tree) ≡ suc (length (transition_items tree))

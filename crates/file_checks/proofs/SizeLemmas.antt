@@ -1,36 +1,37 @@
 -- Tests of sizes, coefficient by coefficient and month by month.
-use Rattle.std.proofs.Common.{◌≡◌, ℕ, zero, suc, ◌+◌, ◌*◌, ◌^◌, ◌<◌, ◌≤◌, ℤ, pos, Bool, true, false, ◌&&◌, nat_le, List, [], ◌∷◌, ◌++◌}
-use Rattle.std.proofs.Common.{length, get_or, refl, ap, sym, ◌∙◌, inl, inr, arith}
+use Rattle.std.proofs.Common.{◌≡◌, ℕ, zero, suc, ◌+◌, ◌*◌, ◌^◌, ◌<◌, ◌≤◌, ℤ, pos, Bool, true, false, ◌&&◌, nat_le}
+use Rattle.std.proofs.Common.{List, [], ◌∷◌, ◌++◌, length, get_or, refl, ap, sym, ◌∙◌, inl, inr, arith}
 use mathlib.Core.Path.{ap₂}
 use Rattle.std.specs.Prelude.{unsigned_abs}
 use Rattle.std.specs.List.{list_all}
 use Rattle.std.proofs.Math.Nat.{mul-le-mul_left, pow-le-pow_left}
-use Rattle.std.proofs.lemmas.Bool.{true_from_ne_false, false≢true, cases_lt}
+use Rattle.std.proofs.lemmas.Bool.{true_from_ne_false, false≢true, leb-true, cases_lt}
 use Rattle.std.proofs.lemmas.Bool.Decides.{nat_tests}
 use Rattle.std.proofs.lemmas.List.Folds.{list_all_at}
 use Rattle.toml.specs.Data.{Data, Members}
+use Rattle.named_numbers.specs.Numbers.{most_coefficient}
 use Rattle.model_specs.specs.Whole.{list_of, places}
 use Rattle.model_specs.specs.MonthNumbers.{coefficient_at, bernstein_numerators}
 use Rattle.model_specs.specs.RecordRules.{IsBounded, months_of}
-use Rattle.curve_pieces.proofs.Bounds.{within_limit}
 use Rattle.product_file.specs.Members.{item_at}
 use Rattle.product_file.specs.CurveRules.{is_bounded, months_of_term}
-use Rattle.product_file.specs.PaymentRules.{step_of}
-use Rattle.file_checks.specs.Lists.{starts_of, is_bounded_step_at, are_small}
-use Rattle.file_checks.proofs.Checks.{length-list_of, list_of-at}
+use Rattle.product_file.specs.PaymentRules.{amount_of, are_small}
+use Rattle.file_checks.specs.Lists.{starts_of, is_bounded_step_at}
+use Rattle.model_laws.proofs.ListsByPlace.{at-list_of, length-list_of}
 
 -- a test of all values of a function
 pub all_of : {A : Type 0} (p : A → Bool) (n : ℕ) (f : ℕ → A) → ((i : ℕ) → i < n → p (f i) ≡ true)
     → true ≡ list_all p (list_of n f)
 all_of p zero f passed = refl
 all_of p (suc n) f passed =
-    sym (ap₂ (λ b c. b && c) (passed 0 (omega arith)) (sym (all_of p n (λ i. f (suc i)) (λ i below. passed (suc i) (omega arith)))))
+    sym (ap₂ (λ b c. b && c) (passed 0 (omega arith))
+    (sym (all_of p n (λ i. f (suc i)) (λ i below. passed (suc i) (omega arith)))))
 
 pub all_of-fails : {A : Type 0} (p : A → Bool) (n i : ℕ) (f : ℕ → A) → i < n → p (f i) ≡ false
     → false ≡ list_all p (list_of n f)
 all_of-fails p n i f inside failed =
     sym (list_all_at p (list_of n f) i (f i) (omega (arith, length-list_of n f))
-    (ap p (list_of-at n i f (f i) inside) ∙ failed))
+    (ap p (at-list_of n f i (f i) inside) ∙ failed))
 
 pub passed_of : {A : Type 0} (p : A → Bool) (n i : ℕ) (f : ℕ → A) → list_all p (list_of n f) ≡ true → i < n
     → p (f i) ≡ true
@@ -47,18 +48,16 @@ size_above f u n b m i l e k p h =
     over : (x y : ℕ) → y < x → nat_le x y ≡ false
     over x y h = grind (arith, nat_tests)
 
-le_from_test : (m n : ℕ) → nat_le m n ≡ true → m ≤ n
-le_from_test m n h = grind (arith, nat_tests)
-
 shorter_power : (n s t j l : ℕ) → s ≤ t → n * t ^ j ≤ l → n * s ^ j ≤ l
 shorter_power n s t j l h k = omega (arith, mul-le-mul_left n (pow-le-pow_left h j))
 
 -- a bounded part is bounded over fewer months, with zeros for its last coefficients too
 pub bounded_from_test : (c : List ℤ) (s t : ℕ) → s ≤ t → is_bounded c t ≡ true → IsBounded c s
 bounded_from_test c s t fewer test = λ i inside.
-    shorter_power (unsigned_abs (coefficient_at c i)) s t i (10 ^ 22) fewer
-    (le_from_test _ _
-    (passed_of (λ j. nat_le (unsigned_abs (coefficient_at c j) * t ^ j) (10 ^ 22)) (length c) i (λ j. j) test inside))
+    shorter_power (unsigned_abs (coefficient_at c i)) s t i most_coefficient fewer
+    (leb-true _ _
+    (passed_of (λ j. nat_le (unsigned_abs (coefficient_at c j) * t ^ j) most_coefficient) (length c) i (λ j. j) test
+    inside))
 
 -- four coefficients and two zeros
 abbrev pub padded : List ℤ → List ℤ
@@ -83,7 +82,8 @@ padded_bounded c s bounded = λ i inside.
       | inr past ↦ rw (padded-past c i past) (omega arith)
     ]
 
-pub padded_numerators : (c : List ℤ) (k : ℕ) → length c ≡ 4 → bernstein_numerators (padded c) k ≡ bernstein_numerators c k
+pub padded_numerators : (c : List ℤ) (k : ℕ) → length c ≡ 4 → bernstein_numerators (padded c) k
+    ≡ bernstein_numerators c k
 padded_numerators [] k h = absurd (omega arith)
 padded_numerators (c0 ∷ []) k h = absurd (omega arith)
 padded_numerators (c0 ∷ c1 ∷ []) k h = absurd (omega arith)
@@ -102,10 +102,10 @@ given_four (p0 ∷ p1 ∷ p2 ∷ p3 ∷ p4 ∷ p) a b c d h ha hb hc hd = absurd
 
 -- a bounded step has small amounts, or is not bounded
 pub bounded_step_is : (tree : Members) (items : List Data) (i s : ℕ) (c : List ℤ) (d : Data) → d ≡ item_at items i
-    → c ≡ (step_of tree d).c → s ≡ months_of (months_of_term tree) (starts_of items) i → is_bounded c s ≡ true
+    → c ≡ amount_of tree d → s ≡ months_of (months_of_term tree) (starts_of items) i → is_bounded c s ≡ true
     → list_all (λ k. are_small (bernstein_numerators c k)) (places s) ≡ is_bounded_step_at tree items i
 bounded_step_is tree items i s c d d_is c_is s_is bounded =
     let P : List ℤ → ℕ → Bool =
     λ c s. is_bounded c s && list_all (λ k. are_small (bernstein_numerators c k)) (places s) in
     ap (λ b. b && list_all (λ k. are_small (bernstein_numerators c k)) (places s)) (sym bounded)
-    ∙ ap₂ P (c_is ∙ ap (λ d. (step_of tree d).c) d_is) s_is
+    ∙ ap₂ P (c_is ∙ ap (amount_of tree) d_is) s_is

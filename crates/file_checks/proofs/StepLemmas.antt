@@ -1,6 +1,6 @@
 -- Good steps of a list are at most as many as the term has months, and good sojourns at most as many as the states.
-use Rattle.std.proofs.Common.{◌≡◌, ◌≢◌, ℕ, ◌<◌, ◌≤◌, Bool, true, false, not, ◌&&◌, ◌==◌, cond, codes, List, [], ◌∷◌, take}
-use Rattle.std.proofs.Common.{length, None, Some, is_some, refl, ap, sym, ◌∙◌, arith}
+use Rattle.std.proofs.Common.{◌≡◌, ◌≢◌, ℕ, ◌<◌, ◌≤◌, Bool, true, false, not, ◌&&◌, ◌==◌, cond, codes, List, [], ◌∷◌}
+use Rattle.std.proofs.Common.{take, length, None, is_some, refl, ap, sym, ◌∙◌, arith}
 use Rattle.std.specs.List.{list_any}
 use Rattle.std.proofs.lemmas.List.{length-take-le, get_or-take}
 use Rattle.std.proofs.lemmas.Bool.{and_parts, not-true}
@@ -77,7 +77,8 @@ pub few_sojourns : (tree : Members) (k : ℕ) → first_failed (rule_3 tree) ≡
     → ((i : ℕ) → i < k → first_failed (sojourn_rule_10 tree i) ≡ None) → k ≤ 12
 few_sojourns tree k names inside passed =
     few_good tree k names inside
-    (λ i below. good_from (is_good_sojourn tree i) (steps_rule_10 tree (steps_items (item_at (sojourn_items tree) i))) (passed i below))
+    (λ i below. good_from (is_good_sojourn tree i)
+    (steps_rule_10 tree (steps_items (item_at (sojourn_items tree) i))) (passed i below))
 
 -- a sojourn is good where its table is, it names a state, and none before it names that
 pub good_sojourn_is : (tree : Members) (s : ℕ) (d : Data) (index : ℕ) (before : List Data) (a b e : Bool)

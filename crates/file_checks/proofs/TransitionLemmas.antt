@@ -1,17 +1,17 @@
 -- Good transitions have different pairs of states, so there are few of them.
-use Rattle.std.proofs.Common.{◌≡◌, ◌≢◌, ℕ, ◌+◌, ◌*◌, ◌<◌, ◌≤◌, Bool, true, false, not, ◌&&◌, eqb, codes, List, map, take}
-use Rattle.std.proofs.Common.{length, get_or, None, is_some, ap, sym, ◌∙◌, arith}
+use Rattle.std.proofs.Common.{◌≡◌, ◌≢◌, ℕ, ◌+◌, ◌*◌, ◌<◌, ◌≤◌, Bool, true, false, not, ◌&&◌, eqb, codes, List, map}
+use Rattle.std.proofs.Common.{take, length, get_or, None, is_some, ap, sym, ◌∙◌, arith}
 use Rattle.std.specs.List.{list_any}
 use Rattle.std.proofs.Math.ListN.{get_or-map}
 use Rattle.std.proofs.lemmas.List.{length-map, length-take-le, get_or-take}
 use Rattle.std.proofs.lemmas.List.Folds.{list_any_at}
 use Rattle.std.proofs.lemmas.Bool.{and_parts, false≢true, false_from_ne_true, not-true}
 use Rattle.std.proofs.lemmas.Bool.Decides.{nat_tests}
-use Rattle.toml.specs.Data.{Data, Members, boolean}
+use Rattle.toml.specs.Data.{Members, boolean}
 use Rattle.product_file.specs.Checks.{first_failed}
 use Rattle.product_file.specs.Members.{item_at}
-use Rattle.product_file.specs.HeadRules.{rule_3, state_names}
-use Rattle.product_file.specs.TransitionRule.{transition_items, is_transition, state_at, state_index, pair_of}
+use Rattle.product_file.specs.HeadRules.{rule_3}
+use Rattle.product_file.specs.TransitionRule.{transition_items, is_transition, state_at, pair_of}
 use Rattle.product_file.specs.TransitionRule.{is_same_pair, is_good_transition, rule_7}
 use Rattle.file_checks.proofs.Checks.{holds_at}
 use Rattle.file_checks.proofs.Pigeonhole.{at_most}
@@ -79,7 +79,8 @@ few_transitions tree k names inside good = at_most (code_at tree) 144 k below di
         omega (
           arith,
           at_most_twelve tree names,
-          state_index-below tree (codes "from") (item_at (transition_items tree) i) (good_parts tree i (good i before)).from,
+          state_index-below tree (codes "from") (item_at (transition_items tree) i)
+              (good_parts tree i (good i before)).from,
         )
 
     to_below : (i : ℕ) → i < k → (pair_of tree (item_at (transition_items tree) i)).1 < 12
@@ -87,7 +88,8 @@ few_transitions tree k names inside good = at_most (code_at tree) 144 k below di
         omega (
           arith,
           at_most_twelve tree names,
-          state_index-below tree (codes "to") (item_at (transition_items tree) i) (good_parts tree i (good i before)).to,
+          state_index-below tree (codes "to") (item_at (transition_items tree) i)
+              (good_parts tree i (good i before)).to,
         )
 
     below : (i : ℕ) → i < k → code_at tree i < 144

@@ -1,7 +1,7 @@
 -- Where the rules of a tree are broken, in two parts.
 use Rattle.std.specs.Prelude.{◌≡◌, ◌∷◌, [], List, Option, None}
 use Rattle.toml.specs.Data.{Members}
-use Rattle.model_specs.specs.ValuationRules as model
+use Rattle.model_specs.specs.ValuationRules.{RuleBreak}
 use Rattle.product_file.specs.Checks.{first_failed, first_failed_of_lists}
 use Rattle.product_file.specs.HeadRules.{rule_1, rule_2, rule_3, rule_4, rule_5, rule_6}
 use Rattle.product_file.specs.TransitionRule.{rule_7}
@@ -10,14 +10,9 @@ use Rattle.product_file.specs.PaymentRules.{rule_10, rule_11}
 use Rattle.product_file.specs.LumpRule.{rule_12}
 use Rattle.product_file.specs.PatternRules.{rule_13, rule_14}
 use Rattle.product_file.specs.Reads.{broken_at}
-use Rattle.product_model.specs.declared.breaks.RuleBreak.{RuleBreak}
-
--- what a `RuleBreak` stands for
-abbrev pub break_of : RuleBreak → model.RuleBreak
-break_of b = record { rule = b.rule; place = b.place }
 
 -- where rules 1 to 7 are broken
-abbrev pub head_breaks : Members → List (Option model.RuleBreak)
+abbrev pub head_breaks : Members → List (Option RuleBreak)
 head_breaks tree =
     broken_at 1 (first_failed (rule_1 tree)) ∷ broken_at 2 (first_failed (rule_2 tree))
     ∷ broken_at 3 (first_failed (rule_3 tree)) ∷ broken_at 4 (first_failed (rule_4 tree))
@@ -25,7 +20,7 @@ head_breaks tree =
     ∷ broken_at 7 (first_failed (rule_7 tree)) ∷ []
 
 -- where rules 8 to 14 are broken
-abbrev pub list_breaks : Members → List (Option model.RuleBreak)
+abbrev pub list_breaks : Members → List (Option RuleBreak)
 list_breaks tree =
     broken_at 8 (first_failed_of_lists (rule_8 tree)) ∷ broken_at 9 (first_failed_of_lists (rule_9 tree))
     ∷ broken_at 10 (first_failed_of_lists (rule_10 tree)) ∷ broken_at 11 (first_failed_of_lists (rule_11 tree))

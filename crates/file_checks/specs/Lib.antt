@@ -1,4 +1,3 @@
 pub mod Broken
 pub mod Lists
 pub mod Slots
-pub mod Texts

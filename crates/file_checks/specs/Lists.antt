@@ -1,6 +1,5 @@
 -- The checks of an item of a list, by the list and the place.
-use Rattle.std.specs.Prelude.{◌≡◌, ℕ, ◌*◌, ◌^◌, ◌<◌, nat_le, ℤ, unsigned_abs, codes, List, length, map, Bool, true, ◌&&◌}
-use Rattle.std.specs.List.{list_all}
+use Rattle.std.specs.Prelude.{◌≡◌, ℕ, ◌<◌, codes, List, length, map, Bool, true, ◌&&◌}
 use Rattle.toml.specs.Data.{Data, Members}
 use Rattle.model_specs.specs.Whole.{natural_part}
 use Rattle.model_specs.specs.RecordRules.{months_of}
@@ -36,7 +35,3 @@ is_bounded_piece tree items i =
 abbrev pub is_bounded_step_at : Members → List Data → ℕ → Bool
 is_bounded_step_at tree items i =
     is_bounded_step (step_of tree (item_at items i)) (months_of (months_of_term tree) (starts_of items) i)
-
--- each Bernstein numerator of an amount is at most 10^12 minor units in size, over 2488320
-abbrev pub are_small : List ℤ → Bool
-are_small numerators = list_all (λ b. nat_le (unsigned_abs b) (10 ^ 12 * 2488320)) numerators

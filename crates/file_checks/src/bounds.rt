@@ -2,18 +2,18 @@
 
 ghost use Rattle.std.specs.Prelude.{◌≡◌, ◌<◌, ◌≤◌, IfSome, length, map, None};
 ghost use Rattle.toml.specs.View.{view, table_view};
+ghost use Rattle.named_numbers.specs.Numbers.{most_months};
 ghost use Rattle.product_file.specs.Checks.{first_failed, first_failed_from, first_failed_of_lists};
 ghost use Rattle.product_file.specs.HeadRules.{rule_3, rule_4};
 ghost use Rattle.product_file.specs.TransitionRule.{rule_7, transition_items};
 ghost use Rattle.product_file.specs.CurveRules.{rule_8_of, rule_8, rule_9_of, rule_9};
-ghost use Rattle.product_file.specs.PaymentRules.{sum_items, steps_items, sojourn_items, rule_10, steps_rule_11, rule_11};
+ghost use Rattle.product_file.specs.PaymentRules.{sum_items, steps_items, sojourn_items};
+ghost use Rattle.product_file.specs.PaymentRules.{rule_10, steps_rule_11, rule_11};
 ghost use Rattle.file_checks.specs.Lists.{AreInOrder};
 
 use crate::held::{is_bounded_piece, is_bounded_step};
-use crate::pieces::{curve, place};
-use crate::steps::{sojourns, steps_of, sum_of};
-use crate::table::item;
-use crate::transition::transitions;
+use crate::pieces::place;
+use file_tree::{curve, item, sojourns, steps_of, sum_of, transitions};
 use toml::{Table, Value};
 
 // The first piece of a curve that breaks rule 9.
@@ -21,7 +21,7 @@ fn piece_break(tree: &Table, pieces: &[Value]) -> Option<u32>
     requires term { first_failed (rule_4 (table_view tree.now)) ≡ None }
     requires pieces { first_failed (rule_8_of (table_view tree.now) (map view pieces.now)) ≡ None }
     ensures value { result ≡ first_failed (rule_9_of (table_view tree.now) (map view pieces.now)) }
-    ensures small { IfSome result (λ i. i ≤ 1200) }
+    ensures small { IfSome result (λ i. i ≤ most_months) }
 {
     for i in 0..pieces.len() {
         if !is_bounded_piece(tree, pieces, i) {
@@ -32,7 +32,7 @@ fn piece_break(tree: &Table, pieces: &[Value]) -> Option<u32>
 }
 
 /// The first place that breaks rule 9: 4096 times the curve, and the piece.
-pub fn size_break(tree: &Table) -> Option<u32>
+pub(crate) fn size_break(tree: &Table) -> Option<u32>
     requires names { first_failed (rule_3 (table_view tree.now)) ≡ None }
     requires term { first_failed (rule_4 (table_view tree.now)) ≡ None }
     requires transitions { first_failed (rule_7 (table_view tree.now)) ≡ None }
@@ -54,7 +54,7 @@ fn step_break(tree: &Table, steps: &[Value]) -> Option<u32>
     requires term { first_failed (rule_4 (table_view tree.now)) ≡ None }
     requires in_order { AreInOrder (table_view tree.now) (map view steps.now) }
     ensures value { result ≡ first_failed (steps_rule_11 (table_view tree.now) (map view steps.now)) }
-    ensures small { IfSome result (λ i. i ≤ 1200) }
+    ensures small { IfSome result (λ i. i ≤ most_months) }
 {
     for i in 0..steps.len() {
         if !is_bounded_step(tree, steps, i) {
@@ -103,7 +103,7 @@ fn sojourns_break(tree: &Table) -> Option<u32>
 
 /// The first place that breaks rule 11: 4096 times the list, and the step. List k is the sum of transition k; after the
 /// transitions come the sojourns.
-pub fn amount_break(tree: &Table) -> Option<u32>
+pub(crate) fn amount_break(tree: &Table) -> Option<u32>
     requires names { first_failed (rule_3 (table_view tree.now)) ≡ None }
     requires term { first_failed (rule_4 (table_view tree.now)) ≡ None }
     requires transitions { first_failed (rule_7 (table_view tree.now)) ≡ None }

@@ -4,26 +4,25 @@ ghost use Rattle.std.specs.Prelude.{◌≡◌, ◌≤◌, ◌<◌, ◌++◌, [],
 ghost use Rattle.std.specs.List.{list_all};
 ghost use Rattle.model_specs.specs.Whole.{places};
 ghost use Rattle.model_specs.specs.MonthNumbers.{bernstein_numerators};
+ghost use Rattle.named_numbers.specs.Numbers.{most_months};
 ghost use Rattle.product_file.specs.CurveRules.{is_bounded};
-ghost use Rattle.file_checks.specs.Lists.{are_small};
+ghost use Rattle.product_file.specs.PaymentRules.{are_small};
 
+use named_numbers::{BERNSTEIN_UNIT, MOST_AMOUNT, MOST_COEFFICIENT};
 use poly_small::Poly;
 
-// The largest size of a coefficient times a power of the months.
-const LARGEST: u128 = 10_000_000_000_000_000_000_000;
-
-// The largest size of a Bernstein numerator: 10^12 minor units, over 2488320.
-const LARGEST_AMOUNT: u128 = 1_000_000_000_000 * 2_488_320;
+// The largest size of a Bernstein numerator.
+const LARGEST_AMOUNT: u128 = MOST_AMOUNT * BERNSTEIN_UNIT;
 
 /// Whether each |c[i]| s^i is at most 10^22, for a part of s months.
 pub(crate) fn is_bounded(c: &[i64], months: u32) -> bool
     requires few { length c.now ≤ 6 }
-    requires term { months ≤ 1200 }
+    requires term { months ≤ most_months }
     ensures { result ≡ is_bounded c.now months }
 {
     let mut power: u128 = 1;
     for number in c {
-        if u128::from(number.unsigned_abs()) * power > LARGEST {
+        if u128::from(number.unsigned_abs()) * power > MOST_COEFFICIENT {
             return false;
         }
         power *= u128::from(months);

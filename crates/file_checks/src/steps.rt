@@ -1,79 +1,35 @@
 //! Rule 10: the steps of the payments.
 
-ghost use Rattle.std.specs.Prelude.{◌≡◌, ◌==◌, ◌<◌, ◌≤◌, IfSome, length, map, codes, None};
-ghost use Rattle.std.specs.List.{list_any};
+ghost use Rattle.std.specs.Prelude.{◌≡◌, ◌<◌, ◌≤◌, IfSome, length, map, None};
 ghost use Rattle.toml.specs.View.{view, table_view};
+ghost use Rattle.named_numbers.specs.Numbers.{most_months};
 ghost use Rattle.model_specs.specs.Whole.{list_of};
 ghost use Rattle.product_file.specs.Checks.{first_failed, first_failed_from, first_failed_of_lists};
-ghost use Rattle.product_file.specs.Members.{has_no_key_but};
 ghost use Rattle.product_file.specs.HeadRules.{rule_3, rule_4};
-ghost use Rattle.product_file.specs.TransitionRule.{rule_7, transition_items, state_index};
-ghost use Rattle.product_file.specs.PaymentRules.{constant_step_keys, is_constant_step, is_varying_step, is_step};
-ghost use Rattle.product_file.specs.PaymentRules.{steps_rule_10, sojourn_keys, is_sojourn, sojourn_items};
-ghost use Rattle.product_file.specs.PaymentRules.{is_good_sojourn, sum_items, steps_items, sum_rule_10};
-ghost use Rattle.product_file.specs.PaymentRules.{sojourn_rule_10, rule_10};
+ghost use Rattle.product_file.specs.TransitionRule.{rule_7, transition_items};
+ghost use Rattle.product_file.specs.PaymentRules.{is_step, steps_rule_10, sojourn_items, is_good_sojourn};
+ghost use Rattle.product_file.specs.PaymentRules.{sum_rule_10, sojourn_rule_10, rule_10};
 ghost use Rattle.file_checks.specs.Lists.{is_good_step};
 
-use crate::head::is_format_1;
-use crate::pieces::{has_piece_keys, is_in_order, place};
-use crate::table::{
-    has_array, has_no_key_but, has_text, has_whole, item, items_before, items_of, whole_of,
+use crate::pieces::{is_in_order, place};
+use file_tree::{
+    constant_step_keys, has_state, is_absent_within, is_format_1, is_table_of, item, items_before,
+    piece_keys, sojourn_keys, sojourns, state_at, state_index, steps_of, sum_of, transitions,
+    whole_of,
 };
-use crate::transition::{state_at, state_index, transitions};
-use crate::within::{has_wholes, is_absent_within, items_within};
 use toml::{Table, Value};
-
-// The keys of a step in format 1.
-const CONSTANT_STEP_KEYS: [&str; 2] = ["from", "amount"];
-
-// The keys of a sojourn.
-const SOJOURN_KEYS: [&str; 2] = ["state", "steps"];
 
 // The most coefficients of a step.
 const MOST_COEFFICIENTS: usize = 4;
-
-// Whether the table has no key but those of a step in format 1.
-fn has_constant_step_keys(table: &Table) -> bool
-    ensures { result ≡ has_no_key_but constant_step_keys (table_view table.now) }
-{
-    has_no_key_but(table, &CONSTANT_STEP_KEYS)
-}
-
-// Whether the table has no key but those of a sojourn.
-fn has_sojourn_keys(table: &Table) -> bool
-    ensures { result ≡ has_no_key_but sojourn_keys (table_view table.now) }
-{
-    has_no_key_but(table, &SOJOURN_KEYS)
-}
-
-// Whether the value is a step of format 1.
-fn is_constant_step(value: &Value) -> bool
-    ensures { result ≡ is_constant_step (view value.now) }
-{
-    let Some(table) = value.as_table() else {
-        return false;
-    };
-    has_whole(table, "from") & has_whole(table, "amount") & has_constant_step_keys(table)
-}
-
-// Whether the value is a step of format 2.
-fn is_varying_step(value: &Value) -> bool
-    ensures { result ≡ is_varying_step (view value.now) }
-{
-    let Some(table) = value.as_table() else {
-        return false;
-    };
-    has_whole(table, "from") & has_wholes(table, "c", MOST_COEFFICIENTS) & has_piece_keys(table)
-}
 
 // Whether the value has the keys and types of a step in the file's format.
 fn is_step(tree: &Table, value: &Value) -> bool
     ensures { result ≡ is_step (table_view tree.now) (view value.now) }
 {
     if is_format_1(tree) {
-        is_constant_step(value)
+        is_table_of(value, &constant_step_keys())
     } else {
-        is_varying_step(value)
+        is_table_of(value, &piece_keys(MOST_COEFFICIENTS))
     }
 }
 
@@ -90,7 +46,7 @@ fn is_good_step(tree: &Table, steps: &[Value], i: usize) -> bool
 fn step_break(tree: &Table, steps: &[Value]) -> Option<u32>
     requires { first_failed (rule_4 (table_view tree.now)) ≡ None }
     ensures value { result ≡ first_failed (steps_rule_10 (table_view tree.now) (map view steps.now)) }
-    ensures small { IfSome result (λ i. i ≤ 1200) }
+    ensures small { IfSome result (λ i. i ≤ most_months) }
 {
     if steps.is_empty() {
         return Some(0);
@@ -103,33 +59,6 @@ fn step_break(tree: &Table, steps: &[Value]) -> Option<u32>
     None
 }
 
-// Whether the value is a table with exactly the keys and types of a sojourn.
-fn is_sojourn(value: &Value) -> bool
-    ensures { result ≡ is_sojourn (view value.now) }
-{
-    let Some(table) = value.as_table() else {
-        return false;
-    };
-    has_text(table, "state") & has_array(table, "steps") & has_sojourn_keys(table)
-}
-
-/// The sojourns of the file.
-pub fn sojourns(tree: &Table) -> &[Value]
-    ensures items { map view result.now ≡ sojourn_items (table_view tree.now) }
-    ensures count { length result.now ≡ length (sojourn_items (table_view tree.now)) }
-{
-    items_of(tree, "sojourn")
-}
-
-// Whether one of the sojourns names the state with an index.
-fn has_sojourn(tree: &Table, values: &[Value], index: usize) -> bool
-    ensures { result ≡ list_any (λ e. state_index (table_view tree.now) (codes "state") e == index) (map view values.now) }
-{
-    values
-        .iter()
-        .any(|value| state_index(tree, "state", value) == index)
-}
-
 // Whether the sojourn at a place is one, names a state, and no earlier one names it.
 fn is_good_sojourn(tree: &Table, s: usize) -> bool
     requires { s < length (sojourn_items (table_view tree.now)) }
@@ -137,33 +66,16 @@ fn is_good_sojourn(tree: &Table, s: usize) -> bool
 {
     let values = sojourns(tree);
     let value = item(values, s);
-    let is_new = !has_sojourn(
-        tree,
-        items_before(values, s),
-        state_index(tree, "state", value),
-    );
-    is_sojourn(value) & state_at(tree, "state", value).is_some() & is_new
-}
-
-/// The steps of a transition's sum, and none where it has no sum.
-pub fn sum_of(value: &Value) -> &[Value]
-    ensures { map view result.now ≡ sum_items (view value.now) }
-{
-    items_within(value, "sum")
-}
-
-/// The steps of a sojourn.
-pub fn steps_of(value: &Value) -> &[Value]
-    ensures { map view result.now ≡ steps_items (view value.now) }
-{
-    items_within(value, "steps")
+    let index = state_index(tree, "state", value);
+    let is_new = !has_state(tree, "state", items_before(values, s), index);
+    is_table_of(value, &sojourn_keys()) & state_at(tree, "state", value).is_some() & is_new
 }
 
 // The first step of a transition's sum that breaks rule 10, and 0 where the sum is empty.
 fn sum_break(tree: &Table, value: &Value) -> Option<u32>
     requires { first_failed (rule_4 (table_view tree.now)) ≡ None }
     ensures value { result ≡ first_failed (sum_rule_10 (table_view tree.now) (view value.now)) }
-    ensures small { IfSome result (λ i. i ≤ 1200) }
+    ensures small { IfSome result (λ i. i ≤ most_months) }
 {
     if is_absent_within(value, "sum") {
         return None;
@@ -176,7 +88,7 @@ fn sojourn_break(tree: &Table, s: usize) -> Option<u32>
     requires term { first_failed (rule_4 (table_view tree.now)) ≡ None }
     requires inside { s < length (sojourn_items (table_view tree.now)) }
     ensures value { result ≡ first_failed (sojourn_rule_10 (table_view tree.now) s) }
-    ensures small { IfSome result (λ i. i ≤ 1200) }
+    ensures small { IfSome result (λ i. i ≤ most_months) }
 {
     if !is_good_sojourn(tree, s) {
         return Some(0);
@@ -189,7 +101,8 @@ fn sums_break(tree: &Table) -> Option<u32>
     requires names { first_failed (rule_3 (table_view tree.now)) ≡ None }
     requires term { first_failed (rule_4 (table_view tree.now)) ≡ None }
     requires transitions { first_failed (rule_7 (table_view tree.now)) ≡ None }
-    ensures { result ≡ first_failed_from 0 (map (sum_rule_10 (table_view tree.now)) (transition_items (table_view tree.now))) }
+    ensures { result ≡ first_failed_from 0
+        (map (sum_rule_10 (table_view tree.now)) (transition_items (table_view tree.now))) }
 {
     let transitions = transitions(tree);
     for k in 0..transitions.len() {
@@ -220,7 +133,7 @@ fn sojourns_break(tree: &Table) -> Option<u32>
 
 /// The first place that breaks rule 10: 4096 times the list, and the step. List k is the sum of transition k; after the
 /// transitions come the sojourns.
-pub fn payment_break(tree: &Table) -> Option<u32>
+pub(crate) fn payment_break(tree: &Table) -> Option<u32>
     requires names { first_failed (rule_3 (table_view tree.now)) ≡ None }
     requires term { first_failed (rule_4 (table_view tree.now)) ≡ None }
     requires transitions { first_failed (rule_7 (table_view tree.now)) ≡ None }

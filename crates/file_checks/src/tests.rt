@@ -1,6 +1,6 @@
 // Files that are written out here. The expected places are worked out by hand from the rules.
-use crate::*;
-use product_model::RuleBreak;
+use crate::first_break;
+use rule_breaks::RuleBreak;
 use std::alloc::Global;
 use std::test::Fail;
 
@@ -143,46 +143,5 @@ fn breaks_no_rule(rt: HostRuntime) -> Result<(), Fail> {
         changed(rt.alloc(), SECOND, "999999999900, 0", "999999999900, 2")?,
         Some(RuleBreak { rule: 11, place: 0 })
     );
-    Ok(())
-}
-
-#[test]
-fn looks_up(rt: HostRuntime) -> Result<(), Fail> {
-    let tree = toml::table_from_str(rt.alloc(), FIRST)?;
-    assert!(rt; is_format_1(&tree) && !is_absent(&tree, "lump"));
-    assert_eq!(rt;
-        (whole_of(&tree, "months"), text_of(&tree, "name")),
-        (12, "first")
-    );
-    assert_eq!(rt;
-        (states(&tree).len(), items_of(&tree, "none").len()),
-        (2, 0)
-    );
-    let transition = transitions(&tree).first().ok_or("no transition")?;
-    let ends = (
-        state_index(&tree, "from", transition),
-        state_at(&tree, "to", transition),
-    );
-    assert_eq!(rt; ends, (0, Some(1)));
-    assert_eq!(rt;
-        (text_within(transition, "to"), state_of(&tree, "c")),
-        ("b", None)
-    );
-    let piece = items_within(transition, "rate").last().ok_or("no piece")?;
-    assert_eq!(rt; (start_of(piece), natural_within(piece, "from")), (6, 6));
-    assert_eq!(rt; piece_coefficients(piece), [2, 3, 0, 0, 0, 0]);
-    let step = sum_of(transition).first().ok_or("no step")?;
-    assert_eq!(rt; step_coefficients(&tree, step), [7, 0, 0, 0]);
-    let sojourn = sojourns(&tree).first().ok_or("no sojourn")?;
-    assert_eq!(rt;
-        (steps_of(sojourn).len(), is_absent_within(sojourn, "sum")),
-        (1, true)
-    );
-    let lump = lumps(&tree).first().ok_or("no lump")?;
-    assert_eq!(rt; (whole_within(lump, "amount"), natural_part(-5)), (5, 0));
-    let payer = payers(&tree).first().ok_or("no payer")?;
-    assert_eq!(rt; (text_in(payer), payer_index(&tree, payer)), ("a", 0));
-    assert_eq!(rt; premium_whole(&tree, "until"), 11);
-    assert_eq!(rt; curve(&tree, 0).len(), 1);
     Ok(())
 }

@@ -4,18 +4,18 @@ ghost use Rattle.std.specs.Prelude.{◌≡◌, IfOk, IfNone, option_map};
 ghost use Rattle.toml.specs.View.{table_view};
 ghost use Rattle.model_specs.specs.ValuationRules.{first_given};
 ghost use Rattle.product_file.specs.Reads.{broken_in_tree};
-ghost use Rattle.file_checks.specs.Broken.{break_of, head_breaks, list_breaks};
-ghost use Rattle.file_checks.specs.Broken.{ObeysHead, ObeysLists, ObeysRules};
+ghost use Rattle.rule_breaks.specs.Breaks.{break_of};
+ghost use Rattle.file_checks.specs.Broken.{head_breaks, list_breaks, ObeysHead, ObeysLists, ObeysRules};
 
 use crate::bounds::{amount_break, size_break};
-use crate::head::{denominator_break, format_break, key_break, term_break};
+use crate::head::{denominator_break, format_break, key_break, start_break, term_break};
 use crate::lump::lump_break;
-use crate::names::{name_break, start_break};
+use crate::names::name_break;
 use crate::pattern::{pattern_break, payer_break};
 use crate::pieces::curve_break;
 use crate::steps::payment_break;
 use crate::transition::transition_break;
-use product_model::RuleBreak;
+use rule_breaks::RuleBreak;
 use std::alloc::{AllocError, Global};
 use toml::Table;
 

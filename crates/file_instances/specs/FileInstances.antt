@@ -22,6 +22,7 @@ further_text =
     ++ codes "[[sojourn]]\nstate = \"well\"\nsteps = [{ from = 0, c = [120, 24] }, { from = 1, c = [60, -12] }]\n\n"
     ++ codes "[[sojourn]]\nstate = \"ill\"\nsteps = [{ from = 0, c = [36] }]\n"
 
+-- it reads as this product
 abbrev pub FurtherReads : Type 0
 FurtherReads = reads_text further_text ≡ Some (Ok further)
 
@@ -54,5 +55,6 @@ growing_amount = codes "format = 2\nname = \"t\"\nmonths = 12\nden = 1\nstart = 
     ++ codes "interest = [{ from = 0, c = [0] }]\n[[sojourn]]\nstate = \"a\"\n"
     ++ codes "steps = [{ from = 0, c = [0, 7000000000000] }]\n"
 
+-- so it breaks rule 11
 abbrev pub GrowingAmountBreaks : Type 0
 GrowingAmountBreaks = Breaks growing_amount 11 0

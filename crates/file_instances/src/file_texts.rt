@@ -2,8 +2,8 @@
 
 ghost use Rattle.file_instances.specs.FileInstances.{FurtherReads, NineStates, GrowingAmountBreaks};
 
-/// A whole product; nine states, which format 2 has and format 1 has not; and an amount that grows above its limit after
-/// the first month.
+/// A whole product; nine states, which format 2 has and format 1 has not; and an amount that grows above its limit
+/// after the first month.
 pub fn texts_read()
     ensures product { FurtherReads }
     ensures states { NineStates }

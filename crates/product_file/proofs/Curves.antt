@@ -6,11 +6,11 @@ use Rattle.std.specs.Prelude.{None, nat_le, unsigned_abs}
 use Rattle.std.proofs.lemmas.Bool.{leb-true}
 use Rattle.std.proofs.lemmas.List.{get_or-map, length-map}
 use Rattle.std.proofs.lemmas.List.Elements.{All-map}
+use Rattle.std.proofs.lemmas.Simd.{map-map}
 use Rattle.toml.specs.Data.{Data, Members, boolean}
 use Rattle.model_specs.specs.Whole.{natural_part}
 use Rattle.model_specs.specs.MonthNumbers.{coefficient_at}
-use Rattle.model_specs.specs.RecordRules.{StartsRise, IsCurve, IsBounded, IsBoundedCurve}
-use Rattle.model_specs.specs.RecordRules.{HasGoodCurves}
+use Rattle.model_specs.specs.RecordRules.{StartsRise, IsCurve, IsBounded, IsBoundedCurve, HasGoodCurves}
 use Rattle.model_laws.proofs.ListsByPlace.{length-list_of}
 use Rattle.product_file.specs.Checks.{first_failed, first_failed_of_lists}
 use Rattle.product_file.specs.Members.{whole_of, item_at, items_of, members_of, wholes_of}
@@ -20,7 +20,7 @@ use Rattle.product_file.specs.CurveRules.{piece_of, months_of_term, curve_items,
 use Rattle.product_file.specs.Reads.{product_of, transition_of}
 use Rattle.product_file.proofs.Passed.{left-of, right-of, each-holds, each-of-some, some-there, each-list-holds}
 use Rattle.product_file.proofs.Passed.{each-place-passes}
-use Rattle.product_file.proofs.Wholes.{natural_below, natural_above, natural_zero, map-twice}
+use Rattle.product_file.proofs.Wholes.{natural_below, natural_above, natural_zero}
 
 -- starts in order at all places: each is not negative
 starts-natural : (months : ℤ) (items : List Data) → ((i : ℕ) → i < length items → is_in_order months items i ≡ true)
@@ -63,7 +63,7 @@ starts_rise {A} months items part from reads some h = record {
 
     start-at : (k : ℕ) → k < length items
         → slice_index (map from (map part items)) k ≡ natural_part (start_of (item_at items k))
-    start-at k below = ap (λ xs. slice_index xs k) (map-twice from part items)
+    start-at k below = ap (λ xs. slice_index xs k) (map-map from part items)
         ∙ get_or-map (λ d. from (part d)) items k (boolean false) 0 below ∙ reads (item_at items k)
 
     rise : (k : ℕ) → suc k < length items

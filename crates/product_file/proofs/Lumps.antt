@@ -1,13 +1,14 @@
 -- Rules 12 to 14: good lumps, and a good pattern.
-use Rattle.std.proofs.Common.{◌≡◌, ℕ, zero, suc, ◌^◌, ◌<◌, ◌≤◌, List, [], ◌∷◌, length, map}
-use Rattle.std.proofs.Common.{arith, refl, ap, sym, subst}
+use Rattle.std.proofs.Common.{◌≡◌, ℕ, zero, suc, ◌<◌, ◌≤◌, List, [], ◌∷◌, length, map, arith, refl, ap, sym, subst}
 use Rattle.std.specs.Prelude.{Bool, true, false, ◌&&◌, if◌then◌else◌, ℤ, pos, int_le, codes, None, is_some}
 use Rattle.std.specs.Prelude.{◌==◌, nat_le, unsigned_abs}
 use Rattle.std.proofs.lemmas.Bool.{leb-true, eq-eqb}
 use Rattle.std.proofs.lemmas.Option.{none-some}
 use Rattle.std.proofs.lemmas.List.{length-map}
 use Rattle.std.proofs.lemmas.List.Elements.{All-map}
+use Rattle.std.proofs.lemmas.Simd.{map-map}
 use Rattle.toml.specs.Data.{Data, Members, boolean, as_str}
+use Rattle.named_numbers.specs.Numbers.{most_lump, most_every}
 use Rattle.model_specs.specs.Whole.{natural_part}
 use Rattle.model_specs.specs.Product.{no_pattern, PremiumPattern, Product}
 use Rattle.model_specs.specs.RecordRules.{AreDistinct, HasGoodLumps, HasGoodPattern}
@@ -21,7 +22,7 @@ use Rattle.product_file.specs.PatternRules.{rule_13, rule_14, is_premium, premiu
 use Rattle.product_file.specs.PatternRules.{payer_state, is_good_payer, payer_checks}
 use Rattle.product_file.specs.Reads.{product_of}
 use Rattle.product_file.proofs.Passed.{left-of, right-of, denied, nth-holds, others-hold, each-holds}
-use Rattle.product_file.proofs.Wholes.{distinct_values, map-twice, natural_most, natural_some, some_natural}
+use Rattle.product_file.proofs.Wholes.{distinct_values, natural_most, natural_some, some_natural}
 use Rattle.product_file.proofs.Heads.{index_inside}
 use Rattle.product_file.proofs.Transitions.{all_items, same_pair}
 
@@ -37,17 +38,17 @@ good_lumps tree h = record {
       (λ i below. index_inside tree _ (right-of (is_lump (item_at items i) && is_from_to (pos 0) term (date
       (item_at items i))) _
       (left-of _ _ (left-of _ _ (good i below))))));
-  amounts = All-map (λ l. unsigned_abs l.amount ≤ 10 ^ 12) (lump_of tree) items
-      (all_items (λ d. unsigned_abs (lump_of tree d).amount ≤ 10 ^ 12) items
+  amounts = All-map (λ l. unsigned_abs l.amount ≤ most_lump) (lump_of tree) items
+      (all_items (λ d. unsigned_abs (lump_of tree d).amount ≤ most_lump) items
       (λ i below. leb-true _ _ (right-of (is_lump (item_at items i) && is_from_to (pos 0) term (date (item_at items i))
       && is_some (state_at tree (codes "state") (item_at items i))) _ (left-of _ _ (good i below)))));
-  distinct = subst (AreDistinct {A = ℕ × ℕ} (0, 0)) (sym (map-twice (λ l. (l.month, l.state)) (lump_of tree) items))
+  distinct = subst (AreDistinct {A = ℕ × ℕ} (0, 0)) (sym (map-map (λ l. (l.month, l.state)) (lump_of tree) items))
       (distinct_values {A = Data} {B = ℕ × ℕ} (0, 0) (λ d. date_and_state (lump_of tree d)) is_same_pair items
       (boolean false)
       same_pair (λ k below. denied _ (right-of (is_lump (item_at items k) && is_from_to (pos 0) term (date
       (item_at items k))
       && is_some (state_at tree (codes "state") (item_at items k))
-      && nat_le (unsigned_abs (lump_of tree (item_at items k)).amount) (10 ^ 12)) _ (good k below))));
+      && nat_le (unsigned_abs (lump_of tree (item_at items k)).amount) (most_lump)) _ (good k below))));
 }
   where
     items : List Data
@@ -73,7 +74,7 @@ record PremiumHolds (tree : Members) : Type 0 where
   pub some : 1 ≤ length (payer_items tree)
   pub payers : (i : ℕ) → i < length (payer_items tree) → is_good_payer tree i ≡ true
   pub until : is_from_to (pos 1) (whole_of (codes "months") tree) (whole_of (codes "until") (premium_of tree)) ≡ true
-  pub every : is_from_to (pos 0) (pos 1200) (whole_of (codes "every") (premium_of tree)) ≡ true
+  pub every : is_from_to (pos 0) (pos most_every) (whole_of (codes "every") (premium_of tree)) ≡ true
 
 some-payer : (tree : Members) (n : ℕ) → first_failed (payer_checks tree n) ≡ None → 1 ≤ n
 some-payer tree zero h = absurd (none-some _ (sym h))
@@ -132,7 +133,7 @@ table_pattern_is_good tree h = record {
   until_above_0 = λ some. natural_some until (left-of _ (int_le until term) h.until);
   until_within = natural_most until term (some_natural until (left-of _ (int_le until term) h.until))
       (right-of (int_le (pos 1) until) _ h.until);
-  every = natural_most every (pos 1200) (left-of _ (int_le every (pos 1200)) h.every)
+  every = natural_most every (pos most_every) (left-of _ (int_le every (pos most_every)) h.every)
       (right-of (int_le (pos 0) every) _ h.every);
   never_until = λ e. absurd (some-payers e);
   never_every = λ e. absurd (some-payers e);
@@ -176,14 +177,14 @@ good_pattern tree h13 h14 = by-absence (is_absent (codes "premium") tree) h13 h1
         (payer_items tree)))) ≡ None
         → first_failed (if b then [] else (is_from_to (pos 1) (whole_of (codes "months") tree) (whole_of
         (codes "until") (premium_of tree))
-        ∷ is_from_to (pos 0) (pos 1200) (whole_of (codes "every") (premium_of tree)) ∷ [])) ≡ None
+        ∷ is_from_to (pos 0) (pos most_every) (whole_of (codes "every") (premium_of tree)) ∷ [])) ≡ None
         → HasGoodPattern (with-pattern tree (if b then no_pattern else table_pattern tree))
     by-absence true a c = no_pattern_is_good tree
     by-absence false a c = table_pattern_is_good tree (record {
       some = some-payer tree count (others-hold (is_premium t) (payer_checks tree count) a);
       payers = each-payer tree count (others-hold (is_premium t) (payer_checks tree count) a);
       until = nth-holds (is_from_to (pos 1) term (whole_of (codes "until") t)
-          ∷ is_from_to (pos 0) (pos 1200) (whole_of (codes "every") t) ∷ []) c 0;
+          ∷ is_from_to (pos 0) (pos most_every) (whole_of (codes "every") t) ∷ []) c 0;
       every = nth-holds (is_from_to (pos 1) term (whole_of (codes "until") t)
-          ∷ is_from_to (pos 0) (pos 1200) (whole_of (codes "every") t) ∷ []) c 1;
+          ∷ is_from_to (pos 0) (pos most_every) (whole_of (codes "every") t) ∷ []) c 1;
     })

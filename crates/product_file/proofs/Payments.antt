@@ -1,16 +1,14 @@
 -- Rules 10 and 11: good payments.
-use Rattle.std.proofs.Common.{◌≡◌, ℕ, ◌*◌, ◌^◌, ◌<◌, ◌≤◌, List, [], ◌∷◌, length, map, get_or}
-use Rattle.std.proofs.Common.{arith, refl, sym, subst}
-use Rattle.std.specs.Prelude.{Bool, true, false, ◌&&◌, not, if◌then◌else◌, pos, codes, All, slice_index_or, None}
-use Rattle.std.specs.Prelude.{is_some}
-use Rattle.std.specs.Prelude.{◌==◌, nat_le, unsigned_abs, Option, Some, unwrap_or, option_and_then}
-use Rattle.std.specs.List.{list_all}
+use Rattle.std.proofs.Common.{◌≡◌, ℕ, ◌*◌, ◌<◌, ◌≤◌, List, [], ◌∷◌, length, map, get_or, arith, refl, sym, subst}
+use Rattle.std.specs.Prelude.{Bool, ℤ, true, false, ◌&&◌, not, if◌then◌else◌, pos, codes, All, slice_index_or, None}
+use Rattle.std.specs.Prelude.{is_some, ◌==◌, nat_le, unsigned_abs, Option, Some, unwrap_or, option_and_then}
 use Rattle.std.proofs.lemmas.Bool.{false≢true, leb-true, eq-eqb}
 use Rattle.std.proofs.lemmas.Option.{none-some}
 use Rattle.std.proofs.lemmas.List.{length-map}
 use Rattle.std.proofs.lemmas.List.Elements.{All-map}
+use Rattle.std.proofs.lemmas.Simd.{map-map}
 use Rattle.toml.specs.Data.{Data, no_items, Members, boolean, get_member, as_array}
-use Rattle.model_specs.specs.Whole.{natural_part}
+use Rattle.named_numbers.specs.Numbers.{most_amount, bernstein_unit}
 use Rattle.model_specs.specs.Product.{Step}
 use Rattle.model_specs.specs.Payments.{constant_step}
 use Rattle.model_specs.specs.MonthNumbers.{bernstein_numerators, coefficient_at}
@@ -20,32 +18,24 @@ use Rattle.product_file.specs.Checks.{first_failed, first_failed_of_lists}
 use Rattle.product_file.specs.Members.{whole_of, item_at, items_of, members_of, is_absent, wholes_of, listed}
 use Rattle.product_file.specs.HeadRules.{is_format_1, state_names}
 use Rattle.product_file.specs.TransitionRule.{transition_items, state_index, state_at}
-use Rattle.product_file.specs.CurveRules.{start_of, is_bounded, months_of_term}
+use Rattle.product_file.specs.CurveRules.{is_bounded, months_of_term}
 use Rattle.product_file.specs.PaymentRules.{steps_rule_10, sum_rule_10, sojourn_rule_10, rule_10, is_step, step_of}
 use Rattle.product_file.specs.PaymentRules.{is_good_sojourn, is_sojourn, sojourn_items, sum_items, steps_items}
-use Rattle.product_file.specs.PaymentRules.{is_bounded_step, steps_rule_11, rule_11}
+use Rattle.product_file.specs.PaymentRules.{amount_of, are_small, is_bounded_step, steps_rule_11, rule_11}
 use Rattle.product_file.specs.Reads.{product_of, transition_of, sojourn_of}
 use Rattle.product_file.proofs.Passed.{left-of, right-of, denied, each-holds, each-of-some, some-there, each-list-holds}
 use Rattle.product_file.proofs.Passed.{each-place-holds, front-holds, back-holds, each-passes, each-place-passes}
-use Rattle.product_file.proofs.Wholes.{distinct_values, map-twice}
+use Rattle.product_file.proofs.Wholes.{distinct_values}
 use Rattle.product_file.proofs.Heads.{index_inside}
 use Rattle.product_file.proofs.Transitions.{all_items}
 use Rattle.product_file.proofs.Curves.{starts_rise, coefficients_bounded}
 
--- a step of either format has four coefficients, and starts where its item does
-four : (tree : Members) (d : Data) → length (step_of tree d).c ≡ 4
+-- a step of either format has four coefficients
+four : (tree : Members) (d : Data) → length (amount_of tree d) ≡ 4
 four tree d = either (is_format_1 tree) _ _ refl
     (length-list_of 4 (coefficient_at (wholes_of (items_of (codes "c") (members_of d)))))
   where
-    either : (b : Bool) (x y : Step) → length x.c ≡ 4 → length y.c ≡ 4 → length (if◌then◌else◌ {A = Step} b x y).c ≡ 4
-    either true x y h k = h
-    either false x y h k = k
-
-pub step_start : (tree : Members) (d : Data) → (step_of tree d).from ≡ natural_part (start_of d)
-step_start tree d = either (is_format_1 tree) _ _ refl refl
-  where
-    either : (b : Bool) (x y : Step) → x.from ≡ natural_part (start_of d) → y.from ≡ natural_part (start_of d)
-        → (if◌then◌else◌ {A = Step} b x y).from ≡ natural_part (start_of d)
+    either : (b : Bool) (x y : List ℤ) → length x ≡ 4 → length y ≡ 4 → length (if b then x else y) ≡ 4
     either true x y h k = h
     either false x y h k = k
 
@@ -54,7 +44,7 @@ steps_are_good : (tree : Members) (items : List Data) → first_failed (steps_ru
     → IsPayment (months_of_term tree) (map (step_of tree) items)
 steps_are_good tree items h = record {
   four = All-map (λ step. length step.c ≡ 4) (step_of tree) items (λ k d below. four tree (get_or items k d));
-  starts = starts_rise (whole_of (codes "months") tree) items (step_of tree) (λ step. step.from) (step_start tree)
+  starts = starts_rise (whole_of (codes "months") tree) items (step_of tree) (λ step. step.from) (λ d. refl)
       (some-there (length items) _ h)
       (λ i below. right-of (is_step tree (item_at items i)) _ (each-of-some (length items) _ h i below));
 }
@@ -96,11 +86,11 @@ sojourn_is_good tree s h = by-answer (is_good_sojourn tree s) h
 step_is_bounded : (step : Step) (s : ℕ) → is_bounded_step step s ≡ true → IsBoundedStep step.c s
 step_is_bounded step s h = record {
   coefficients = coefficients_bounded step.c s (left-of _ _ h);
-  amounts = λ k below i d inside. leb-true _ _ (each-passes (λ b. nat_le (unsigned_abs b) (10 ^ 12 * 2488320))
+  amounts = λ k below i d inside. leb-true _ _
+      (each-passes (λ b. nat_le (unsigned_abs b) (most_amount * bernstein_unit))
       (bernstein_numerators step.c k)
-      (each-place-passes s (λ m. list_all (λ b. nat_le (unsigned_abs b) (10 ^ 12 * 2488320))
-      (bernstein_numerators step.c m))
-      (λ m. m) (right-of (is_bounded step.c s) _ h) k below) i d inside);
+      (each-place-passes s (λ m. are_small (bernstein_numerators step.c m)) (λ m. m)
+      (right-of (is_bounded step.c s) _ h) k below) i d inside);
 }
 
 steps_are_bounded : (tree : Members) (items : List Data) → first_failed (steps_rule_11 tree items) ≡ None
@@ -115,7 +105,7 @@ good_payments tree h10 h11 = record {
   states = All-map (λ s. s.state < length (state_names tree)) (sojourn_of tree) items
       (all_items (λ d. state_index tree (codes "state") d < length (state_names tree)) items
       (λ i below. index_inside tree _ (right-of (is_sojourn (item_at items i)) _ (left-of _ _ (good i below).0))));
-  distinct = subst (AreDistinct 0) (sym (map-twice (λ s. s.state) (sojourn_of tree) items))
+  distinct = subst (AreDistinct 0) (sym (map-map (λ s. s.state) (sojourn_of tree) items))
       (distinct_values {A = Data} {B = ℕ} 0 (state_index tree (codes "state")) (λ a b. b == a) items (boolean false)
       (λ y. eq-eqb y y refl)
       (λ k below. denied _ (right-of (is_sojourn (item_at items k) && is_some (state_at tree (codes "state")

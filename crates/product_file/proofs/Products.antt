@@ -1,7 +1,6 @@
 -- A product that a tree reads as is well formed.
 use Rattle.std.proofs.Common.{◌≡◌, refl, ap, subst}
-use Rattle.std.specs.Prelude.{Option, Some, None, Result, Ok, Err}
-use Rattle.std.specs.Prelude.{is_ok}
+use Rattle.std.specs.Prelude.{Option, Some, None, Result, Ok, Err, is_ok}
 use Rattle.std.proofs.lemmas.Bool.{false≢true}
 use Rattle.toml.specs.Data.{Members}
 use Rattle.model_specs.specs.Product.{Product}

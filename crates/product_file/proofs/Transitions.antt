@@ -1,10 +1,10 @@
 -- Rule 7: good transitions.
-use Rattle.std.proofs.Common.{◌≡◌, ◌≢◌, ℕ, ◌<◌, List, length, take}
-use Rattle.std.proofs.Common.{refl, sym, subst, ◌∙◌}
+use Rattle.std.proofs.Common.{◌≡◌, ◌≢◌, ℕ, ◌<◌, List, length, take, refl, sym, subst, ◌∙◌}
 use Rattle.std.specs.Prelude.{Bool, true, false, ◌&&◌, not, None, codes, All, ◌==◌}
 use Rattle.std.proofs.lemmas.Bool.{true≢false, eq-eqb}
 use Rattle.std.proofs.lemmas.List.{get_or_default}
 use Rattle.std.proofs.lemmas.List.Elements.{All-map}
+use Rattle.std.proofs.lemmas.Simd.{map-map}
 use Rattle.toml.specs.Data.{Data, Members, boolean}
 use Rattle.model_specs.specs.RecordRules.{AreDistinct, HasGoodTransitions}
 use Rattle.product_file.specs.Checks.{first_failed}
@@ -14,7 +14,7 @@ use Rattle.product_file.specs.TransitionRule.{rule_7, transition_items, state_in
 use Rattle.product_file.specs.TransitionRule.{is_same_pair, is_good_transition}
 use Rattle.product_file.specs.Reads.{product_of, transition_of}
 use Rattle.product_file.proofs.Passed.{left-of, right-of, denied, each-holds}
-use Rattle.product_file.proofs.Wholes.{distinct_values, any-map, map-twice}
+use Rattle.product_file.proofs.Wholes.{distinct_values, any-map}
 use Rattle.product_file.proofs.Heads.{index_inside}
 
 -- a pair has the same parts as itself
@@ -46,7 +46,7 @@ good_transitions tree h = record {
       (all_items (λ d. state_index tree (codes "from") d ≢ state_index tree (codes "to") d) items
       (λ i below. differ _ _ (right-of _ _ (left-of _ _ (good i below)))));
   distinct = subst (AreDistinct {A = ℕ × ℕ} (0, 0))
-      (sym (map-twice (λ t. (t.from, t.to)) (transition_of tree) items))
+      (sym (map-map (λ t. (t.from, t.to)) (transition_of tree) items))
       (distinct_values {A = Data} {B = ℕ × ℕ} (0, 0) (pair_of tree) is_same_pair items (boolean false) same_pair
       (λ k below.
       sym (any-map (is_same_pair (pair_of tree (item_at items k))) (pair_of tree) (take k items))

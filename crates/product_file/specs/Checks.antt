@@ -7,9 +7,13 @@ first_failed [] = None
 first_failed (true ∷ more) = option_map suc (first_failed more)
 first_failed (false ∷ more) = Some 0
 
+-- how many places of a rule a list has room for
+abbrev pub places_of_list : ℕ
+places_of_list = 4096
+
 -- the place 4096 k + p of a place p in list k, or else another place
 abbrev pub place_in : ℕ → Option ℕ → Option ℕ → Option ℕ
-place_in k (Some place) other = Some (4096 * k + place)
+place_in k (Some place) other = Some (places_of_list * k + place)
 place_in k None other = other
 
 -- the first failed check of some lists in order, the first of which is list k

@@ -1,43 +1,30 @@
 -- Rules 8 and 9 of a product file: the pieces of its curves. Curve 0 is the force of interest, curve 1 + k the
 -- intensity of transition k.
 use Rattle.std.specs.Prelude.{ℕ, zero, suc, ◌*◌, ◌^◌, nat_le, ℤ, pos, int_le, int_lt, unsigned_abs, codes}
-use Rattle.std.specs.Prelude.{List, [], ◌∷◌, length, map, slice_index_or, Bool, false, ◌&&◌, if◌then◌else◌, is_some}
+use Rattle.std.specs.Prelude.{List, [], ◌∷◌, length, map, slice_index_or, Bool, false, ◌&&◌, if◌then◌else◌}
 use Rattle.std.specs.List.{list_all}
-use Rattle.toml.specs.Data.{Data, Members, as_integer, as_table}
+use Rattle.toml.specs.Data.{Data, Members}
+use Rattle.named_numbers.specs.Numbers.{most_coefficient}
 use Rattle.model_specs.specs.Whole.{list_of, places, natural_part}
 use Rattle.model_specs.specs.Curve.{Piece, zero_piece}
 use Rattle.model_specs.specs.MonthNumbers.{coefficient_at}
 use Rattle.model_specs.specs.RecordRules.{months_of, piece_starts}
-use Rattle.product_file.specs.Members.{has_no_key_but, whole_at, array_at, whole_of, items_of, item_at}
-use Rattle.product_file.specs.Members.{members_of, wholes_of}
+use Rattle.product_file.specs.Members.{whole_of, items_of, item_at, members_of, wholes_of}
+use Rattle.product_file.specs.Keys.{piece_keys, is_table_of}
 use Rattle.product_file.specs.HeadRules.{is_format_1}
 use Rattle.product_file.specs.TransitionRule.{transition_items}
-
--- an array of 1 to `most` whole numbers is at the key
-abbrev pub has_wholes : ℕ → List ℕ → Members → Bool
-has_wholes most key t =
-    let items = items_of key t in
-    is_some (array_at key t) && nat_le 1 (length items) && nat_le (length items) most
-    && list_all (λ d. is_some (as_integer d)) items
 
 -- so many coefficients: those of the array at the key, and 0 for the missing ones
 abbrev pub coefficients_of : ℕ → List ℕ → Members → List ℤ
 coefficients_of count key t = list_of count (coefficient_at (wholes_of (items_of key t)))
 
--- the keys of a piece
-abbrev pub piece_keys : List (List ℕ)
-piece_keys = codes "from" ∷ codes "c" ∷ []
-
 -- how many coefficients a piece may have: 4 in format 1 and 6 in format 2
 abbrev pub most_coefficients : Members → ℕ
 most_coefficients tree = if is_format_1 tree then 4 else 6
 
--- a piece is a table with these keys and types
+-- a piece of at most so many coefficients is a table of its keys
 abbrev pub is_piece : ℕ → Data → Bool
-is_piece most d =
-    let t = members_of d in
-    is_some (as_table d) && is_some (whole_at (codes "from") t) && has_wholes most (codes "c") t
-    && has_no_key_but piece_keys t
+is_piece most d = is_table_of (piece_keys most) d
 
 -- the month from which a piece or a step holds
 abbrev pub start_of : Data → ℤ
@@ -77,10 +64,10 @@ rule_8 tree = map (rule_8_of tree) (curve_items tree)
 abbrev pub piece_of : Data → Piece
 piece_of d = record { from = natural_part (start_of d); c = coefficients_of 6 (codes "c") (members_of d) }
 
--- |c_i| s^i is at most 10^22 for each coefficient of a part that holds for s months
+-- |c_i| s^i is not too large for each coefficient of a part that holds for s months
 abbrev pub is_bounded : List ℤ → ℕ → Bool
 is_bounded c s =
-    list_all (λ i. nat_le (unsigned_abs (coefficient_at c i) * s ^ i) (10 ^ 22)) (places (length c))
+    list_all (λ i. nat_le (unsigned_abs (coefficient_at c i) * s ^ i) most_coefficient) (places (length c))
 
 -- the term in months
 abbrev pub months_of_term : Members → ℕ

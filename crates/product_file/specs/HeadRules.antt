@@ -1,43 +1,20 @@
 -- Rules 1 to 6 of a product file: its keys and types, its format, its names, term, denominator and start.
-use Rattle.std.specs.Prelude.{ℕ, ◌^◌, nat_lt, nat_le, ℤ, pos, int_le, codes}
-use Rattle.std.specs.Prelude.{List, [], ◌∷◌, length, map, take, slice_index_or, position, bytes_eq}
-use Rattle.std.specs.Prelude.{Bool, not, ◌&&◌, ◌||◌, if◌then◌else◌, Option, is_some, unwrap_or, option_and_then}
+use Rattle.std.specs.Prelude.{ℕ, nat_lt, nat_le, ℤ, pos, int_le, codes}
+use Rattle.std.specs.Prelude.{List, [], ◌∷◌, ◌++◌, length, map, take, slice_index_or, position, bytes_eq}
+use Rattle.std.specs.Prelude.{Bool, not, ◌&&◌, if◌then◌else◌, Option, is_some, unwrap_or}
 use Rattle.std.specs.List.{list_all}
-use Rattle.toml.specs.Data.{Members, as_str, as_table, get_member}
+use Rattle.toml.specs.Data.{Members, as_str}
+use Rattle.named_numbers.specs.Numbers.{most_months, most_denominator, longest_product_name, longest_state_name}
+use Rattle.named_numbers.specs.Numbers.{most_states, most_states_of_format_1}
 use Rattle.model_specs.specs.Whole.{list_of}
 use Rattle.model_specs.specs.Names.{is_name_byte}
-use Rattle.product_file.specs.Members.{has_no_key_but, whole_at, text_at, array_at, is_absent, is_among}
-use Rattle.product_file.specs.Members.{whole_of, text_of, items_of, item_at}
+use Rattle.product_file.specs.Members.{has_no_key_but, is_among, whole_of, text_of, items_of, item_at}
+use Rattle.product_file.specs.Keys.{has_key, names_of, top_keys}
 
--- the keys of the top table
-abbrev pub top_keys : List (List ℕ)
-top_keys = codes "format" ∷ codes "name" ∷ codes "months" ∷ codes "den" ∷ codes "start" ∷ codes "states"
-    ∷ codes "interest" ∷ codes "transition" ∷ codes "sojourn" ∷ codes "lump" ∷ codes "premium" ∷ []
-
--- an array, or nothing, is at the key
-abbrev pub may_have_array : List ℕ → Members → Bool
-may_have_array key tree = is_absent key tree || is_some (array_at key tree)
-
--- a table, or nothing, is at the key
-abbrev pub may_have_table : List ℕ → Members → Bool
-may_have_table key tree = is_absent key tree || is_some (option_and_then as_table (get_member key tree))
-
--- rule 1: every required key is there, every known key has its type, and no other key is there; the place is
--- the key's, and 11 for an unknown key
+-- rule 1: each key of the top table holds, and no other key is there; the place is the key's in its list, and the
+-- number of keys for another one
 abbrev pub rule_1 : Members → List Bool
-rule_1 tree =
-    is_some (whole_at (codes "format") tree)
-    ∷ is_some (text_at (codes "name") tree)
-    ∷ is_some (whole_at (codes "months") tree)
-    ∷ is_some (whole_at (codes "den") tree)
-    ∷ is_some (text_at (codes "start") tree)
-    ∷ is_some (array_at (codes "states") tree)
-    ∷ is_some (array_at (codes "interest") tree)
-    ∷ may_have_array (codes "transition") tree
-    ∷ may_have_array (codes "sojourn") tree
-    ∷ may_have_array (codes "lump") tree
-    ∷ may_have_table (codes "premium") tree
-    ∷ has_no_key_but top_keys tree ∷ []
+rule_1 tree = map (has_key tree) top_keys ++ (has_no_key_but (names_of top_keys) tree ∷ [])
 
 -- the number is from one to another
 abbrev pub is_from_to : ℤ → ℤ → ℤ → Bool
@@ -63,28 +40,28 @@ state_names tree = map (λ d. unwrap_or (as_str d) []) (items_of (codes "states"
 abbrev pub is_good_state : Members → ℕ → Bool
 is_good_state tree i =
     let name = slice_index_or (state_names tree) i [] in
-    is_some (as_str (item_at (items_of (codes "states") tree) i)) && is_good_name 24 name
+    is_some (as_str (item_at (items_of (codes "states") tree) i)) && is_good_name longest_state_name name
     && not (is_among (take i (state_names tree)) name)
 
--- how many states a product may have: 8 in format 1 and 12 in format 2
-abbrev pub most_states : Members → ℕ
-most_states tree = if is_format_1 tree then 8 else 12
+-- how many states a product may have, in the format of the file
+abbrev pub most_states_of : Members → ℕ
+most_states_of tree = if is_format_1 tree then most_states_of_format_1 else most_states
 
 -- rule 3: the product's name is good (0), there are 1 to 8 or 12 states (1), and each is good (2 + i)
 abbrev pub rule_3 : Members → List Bool
 rule_3 tree =
     let states = length (state_names tree) in
-    is_good_name 40 (text_of (codes "name") tree)
-    ∷ (nat_le 1 states && nat_le states (most_states tree))
+    is_good_name longest_product_name (text_of (codes "name") tree)
+    ∷ (nat_le 1 states && nat_le states (most_states_of tree))
     ∷ list_of states (is_good_state tree)
 
 -- rule 4: the term is 1 to 1200 months
 abbrev pub rule_4 : Members → List Bool
-rule_4 tree = is_from_to (pos 1) (pos 1200) (whole_of (codes "months") tree) ∷ []
+rule_4 tree = is_from_to (pos 1) (pos most_months) (whole_of (codes "months") tree) ∷ []
 
 -- rule 5: the denominator is from 1 to 10^12
 abbrev pub rule_5 : Members → List Bool
-rule_5 tree = is_from_to (pos 1) (pos (10 ^ 12)) (whole_of (codes "den") tree) ∷ []
+rule_5 tree = is_from_to (pos 1) (pos most_denominator) (whole_of (codes "den") tree) ∷ []
 
 -- the index of the state with a name, if there is one
 abbrev pub state_of : Members → List ℕ → Option ℕ

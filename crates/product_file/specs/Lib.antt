@@ -1,6 +1,7 @@
 pub mod Checks
 pub mod CurveRules
 pub mod HeadRules
+pub mod Keys
 pub mod LumpRule
 pub mod Members
 pub mod PatternRules

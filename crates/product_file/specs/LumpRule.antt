@@ -1,24 +1,18 @@
 -- Rule 12 of a product file: its lump sums.
-use Rattle.std.specs.Prelude.{ℕ, ◌^◌, nat_le, pos, unsigned_abs, codes, List, [], ◌∷◌, length, take}
-use Rattle.std.specs.Prelude.{Bool, not, ◌&&◌, is_some}
+use Rattle.std.specs.Prelude.{ℕ, nat_le, pos, unsigned_abs, codes, List, length, take, Bool, not, ◌&&◌, is_some}
 use Rattle.std.specs.List.{list_any}
-use Rattle.toml.specs.Data.{Data, Members, as_table}
+use Rattle.toml.specs.Data.{Data, Members}
+use Rattle.named_numbers.specs.Numbers.{most_lump}
 use Rattle.model_specs.specs.Whole.{list_of, natural_part}
 use Rattle.model_specs.specs.Product.{Lump}
-use Rattle.product_file.specs.Members.{has_no_key_but, whole_at, text_at, whole_of, items_of, item_at, members_of}
+use Rattle.product_file.specs.Members.{whole_of, items_of, item_at, members_of}
+use Rattle.product_file.specs.Keys.{lump_keys, is_table_of}
 use Rattle.product_file.specs.HeadRules.{is_from_to}
 use Rattle.product_file.specs.TransitionRule.{state_at, state_index, is_same_pair}
 
--- the keys of a lump
-abbrev pub lump_keys : List (List ℕ)
-lump_keys = codes "month" ∷ codes "state" ∷ codes "amount" ∷ []
-
--- a lump is a table with exactly these keys and types
+-- a lump is a table of its keys
 abbrev pub is_lump : Data → Bool
-is_lump d =
-    let t = members_of d in
-    is_some (as_table d) && is_some (whole_at (codes "month") t) && is_some (text_at (codes "state") t)
-    && is_some (whole_at (codes "amount") t) && has_no_key_but lump_keys t
+is_lump d = is_table_of lump_keys d
 
 -- the lumps of the file
 abbrev pub lump_items : Members → List Data
@@ -36,7 +30,7 @@ lump_of tree d = record {
 abbrev pub date_and_state : Lump → ℕ × ℕ
 date_and_state lump = (lump.month, lump.state)
 
--- a lump at a place is one, of a date of the term, a state and an amount of at most 10^12, and no earlier one
+-- a lump at a place is one, of a date of the term, a state and an amount that is not too large, and no earlier one
 -- has the same date and state
 abbrev pub is_good_lump : Members → ℕ → Bool
 is_good_lump tree k =
@@ -44,7 +38,7 @@ is_good_lump tree k =
     is_lump d
     && is_from_to (pos 0) (whole_of (codes "months") tree) (whole_of (codes "month") (members_of d))
     && is_some (state_at tree (codes "state") d)
-    && nat_le (unsigned_abs (lump_of tree d).amount) (10 ^ 12)
+    && nat_le (unsigned_abs (lump_of tree d).amount) most_lump
     && not (list_any (λ e. is_same_pair (date_and_state (lump_of tree d)) (date_and_state (lump_of tree e)))
     (take k (lump_items tree)))
 

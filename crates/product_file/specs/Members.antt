@@ -1,5 +1,5 @@
 -- What a table of a TOML file holds at a key, where that has the wanted type.
-use Rattle.std.specs.Prelude.{ℕ, ℤ, pos, List, [], ◌∷◌, Bool, false, Option, is_some, not}
+use Rattle.std.specs.Prelude.{ℕ, nat_le, ℤ, pos, List, [], ◌∷◌, length, Bool, false, ◌&&◌, Option, is_some, not}
 use Rattle.std.specs.Prelude.{option_and_then, unwrap_or, map, slice_index_or, bytes_eq}
 use Rattle.std.specs.List.{list_all, list_any}
 use Rattle.toml.specs.Data.{Data, boolean, Items, no_items, item, Members, no_members, member, get_member}
@@ -54,6 +54,13 @@ text_of key tree = unwrap_or (text_at key tree) []
 -- the items of the array at a key; an absent array is an empty one
 abbrev pub items_of : List ℕ → Members → List Data
 items_of key tree = listed (unwrap_or (array_at key tree) no_items)
+
+-- an array of 1 to `most` whole numbers is at the key
+abbrev pub has_wholes : ℕ → List ℕ → Members → Bool
+has_wholes most key t =
+    let items = items_of key t in
+    is_some (array_at key t) && nat_le 1 (length items) && nat_le (length items) most
+    && list_all (λ d. is_some (as_integer d)) items
 
 -- the members of a table, and none where the data is no table
 abbrev pub members_of : Data → Members

@@ -5,22 +5,18 @@ use Rattle.std.specs.List.{list_any}
 use Rattle.toml.specs.Data.{Data, table, Members, no_members, as_str, get_member}
 use Rattle.model_specs.specs.Whole.{list_of, natural_part}
 use Rattle.model_specs.specs.Product.{PremiumPattern, no_pattern}
-use Rattle.product_file.specs.Members.{has_no_key_but, whole_at, array_at, is_absent, whole_of, items_of, item_at}
-use Rattle.product_file.specs.Members.{members_of}
+use Rattle.named_numbers.specs.Numbers.{most_every}
+use Rattle.product_file.specs.Members.{is_absent, whole_of, items_of, item_at, members_of}
+use Rattle.product_file.specs.Keys.{premium_keys, has_keys}
 use Rattle.product_file.specs.HeadRules.{is_from_to, state_of}
-
--- the keys of the premium table
-abbrev pub premium_keys : List (List ℕ)
-premium_keys = codes "payers" ∷ codes "until" ∷ codes "every" ∷ []
 
 -- the premium table of the file
 abbrev pub premium_of : Members → Members
 premium_of tree = members_of (unwrap_or (get_member (codes "premium") tree) (table no_members))
 
--- the premium table has exactly these keys and types
+-- the premium table has its keys and no other
 abbrev pub is_premium : Members → Bool
-is_premium t = is_some (array_at (codes "payers") t) && is_some (whole_at (codes "until") t)
-    && is_some (whole_at (codes "every") t) && has_no_key_but premium_keys t
+is_premium t = has_keys premium_keys t
 
 -- the payers of the file
 abbrev pub payer_items : Members → List Data
@@ -53,13 +49,13 @@ rule_13 tree =
     if is_absent (codes "premium") tree then []
     else (is_premium (premium_of tree) ∷ payer_checks tree (length (payer_items tree)))
 
--- rule 14: where there is a premium table, `until` is from 1 to the term (0), and `every` from 0 to 1200 (1)
+-- rule 14: where there is a premium table, `until` is from 1 to the term (0), and `every` is not too large (1)
 abbrev pub rule_14 : Members → List Bool
 rule_14 tree =
     let t = premium_of tree in
     if is_absent (codes "premium") tree then []
     else (is_from_to (pos 1) (whole_of (codes "months") tree) (whole_of (codes "until") t)
-    ∷ is_from_to (pos 0) (pos 1200) (whole_of (codes "every") t) ∷ [])
+    ∷ is_from_to (pos 0) (pos most_every) (whole_of (codes "every") t) ∷ [])
 
 -- the premium pattern of the product: one that never pays where the file has none
 abbrev pub pattern_of : Members → PremiumPattern

@@ -1,58 +1,34 @@
 -- Rules 10 and 11 of a product file: the steps of its payments. List k is the sum of transition k; after the
 -- transitions come the sojourns.
-use Rattle.std.specs.Prelude.{ℕ, ◌*◌, ◌^◌, nat_le, ◌==◌, pos, unsigned_abs, codes, List, [], ◌∷◌, ◌++◌, length}
+use Rattle.std.specs.Prelude.{ℕ, ◌*◌, nat_le, ◌==◌, ℤ, pos, unsigned_abs, codes, List, [], ◌∷◌, ◌++◌, length}
 use Rattle.std.specs.Prelude.{map, take, slice_index_or, Bool, false, not, ◌&&◌, if◌then◌else◌, is_some}
 use Rattle.std.specs.List.{list_all, list_any}
-use Rattle.toml.specs.Data.{Data, Members, as_table}
+use Rattle.toml.specs.Data.{Data, Members}
+use Rattle.named_numbers.specs.Numbers.{most_amount, bernstein_unit}
 use Rattle.model_specs.specs.Whole.{list_of, places, natural_part}
 use Rattle.model_specs.specs.Product.{Step}
 use Rattle.model_specs.specs.Payments.{constant_step}
 use Rattle.model_specs.specs.MonthNumbers.{bernstein_numerators}
 use Rattle.model_specs.specs.RecordRules.{months_of, step_starts}
-use Rattle.product_file.specs.Members.{has_no_key_but, whole_at, text_at, array_at, is_absent, whole_of, items_of}
-use Rattle.product_file.specs.Members.{item_at, members_of}
+use Rattle.product_file.specs.Members.{is_absent, whole_of, items_of, item_at, members_of}
+use Rattle.product_file.specs.Keys.{constant_step_keys, piece_keys, sojourn_keys, is_table_of}
 use Rattle.product_file.specs.HeadRules.{is_format_1}
 use Rattle.product_file.specs.TransitionRule.{transition_items, state_at, state_index}
-use Rattle.product_file.specs.CurveRules.{piece_keys, has_wholes, start_of, is_in_order, not_empty}
+use Rattle.product_file.specs.CurveRules.{start_of, is_in_order, not_empty}
 use Rattle.product_file.specs.CurveRules.{coefficients_of, is_bounded, months_of_term}
 
--- the keys of a step in format 1; in format 2 they are those of a piece
-abbrev pub constant_step_keys : List (List ℕ)
-constant_step_keys = codes "from" ∷ codes "amount" ∷ []
-
--- a step of format 1 is a table with exactly the whole numbers `from` and `amount`
-abbrev pub is_constant_step : Data → Bool
-is_constant_step d =
-    let t = members_of d in
-    is_some (as_table d) && is_some (whole_at (codes "from") t) && is_some (whole_at (codes "amount") t)
-    && has_no_key_but constant_step_keys t
-
--- a step of format 2 is a table with exactly the whole number `from` and 1 to 4 coefficients
-abbrev pub is_varying_step : Data → Bool
-is_varying_step d =
-    let t = members_of d in
-    is_some (as_table d) && is_some (whole_at (codes "from") t) && has_wholes 4 (codes "c") t
-    && has_no_key_but piece_keys t
-
--- a step has the keys and types of the file's format
+-- a step is a table of the keys of the file's format: a constant amount, or 1 to 4 coefficients
 abbrev pub is_step : Members → Data → Bool
-is_step tree d = if is_format_1 tree then is_constant_step d else is_varying_step d
+is_step tree d = if is_format_1 tree then is_table_of constant_step_keys d else is_table_of (piece_keys 4) d
 
 -- rule 10 of a list of steps: it has a step, each is one, and their starts are in order
 abbrev pub steps_rule_10 : Members → List Data → List Bool
 steps_rule_10 tree items = not_empty (length items)
     (λ i. is_step tree (item_at items i) && is_in_order (whole_of (codes "months") tree) items i)
 
--- the keys of a sojourn
-abbrev pub sojourn_keys : List (List ℕ)
-sojourn_keys = codes "state" ∷ codes "steps" ∷ []
-
--- a sojourn is a table with exactly these keys and types
+-- a sojourn is a table of its keys
 abbrev pub is_sojourn : Data → Bool
-is_sojourn d =
-    let t = members_of d in
-    is_some (as_table d) && is_some (text_at (codes "state") t) && is_some (array_at (codes "steps") t)
-    && has_no_key_but sojourn_keys t
+is_sojourn d = is_table_of sojourn_keys d
 
 -- the sojourns of the file
 abbrev pub sojourn_items : Members → List Data
@@ -66,10 +42,11 @@ is_good_sojourn tree s =
     && not (list_any (λ e. state_index tree (codes "state") e == state_index tree (codes "state") d)
     (take s (sojourn_items tree)))
 
--- the steps of a transition's sum, of which there are none where it has no sum, and those of a sojourn
+-- the steps of a transition's sum, of which there are none where it has no sum
 abbrev pub sum_items : Data → List Data
 sum_items d = items_of (codes "sum") (members_of d)
 
+-- the steps of a sojourn
 abbrev pub steps_items : Data → List Data
 steps_items d = items_of (codes "steps") (members_of d)
 
@@ -89,20 +66,24 @@ abbrev pub rule_10 : Members → List (List Bool)
 rule_10 tree = map (sum_rule_10 tree) (transition_items tree)
     ++ list_of (length (sojourn_items tree)) (sojourn_rule_10 tree)
 
--- a step of the product: a constant amount in format 1, and else its coefficients, 0 for those left out
-abbrev pub step_of : Members → Data → Step
-step_of tree d =
+-- the four coefficients of a step: a constant amount in format 1, and else those of the file, 0 for those left out
+abbrev pub amount_of : Members → Data → List ℤ
+amount_of tree d =
     let t = members_of d in
-    let from = natural_part (start_of d) in
-    if is_format_1 tree then constant_step from (whole_of (codes "amount") t)
-    else (record { from = from; c = coefficients_of 4 (codes "c") t })
+    if is_format_1 tree then whole_of (codes "amount") t ∷ pos 0 ∷ pos 0 ∷ pos 0 ∷ []
+    else coefficients_of 4 (codes "c") t
 
--- rule 11 of a step of s months: it is bounded, and so is each Bernstein coefficient of its amount in each
--- month, by 10^12 minor units
+-- a step of the product
+abbrev pub step_of : Members → Data → Step
+step_of tree d = record { from = natural_part (start_of d); c = amount_of tree d }
+
+-- each Bernstein numerator of an amount in a month is not too large
+abbrev pub are_small : List ℤ → Bool
+are_small numerators = list_all (λ b. nat_le (unsigned_abs b) (most_amount * bernstein_unit)) numerators
+
+-- rule 11 of a step of s months: it is bounded, and so is its amount in each month
 abbrev pub is_bounded_step : Step → ℕ → Bool
-is_bounded_step step s = is_bounded step.c s
-    && list_all (λ k. list_all (λ b. nat_le (unsigned_abs b) (10 ^ 12 * 2488320)) (bernstein_numerators step.c k))
-    (places s)
+is_bounded_step step s = is_bounded step.c s && list_all (λ k. are_small (bernstein_numerators step.c k)) (places s)
 
 -- rule 11 of a list of steps: each is bounded
 abbrev pub steps_rule_11 : Members → List Data → List Bool

@@ -19,6 +19,7 @@ term_insurance =
     ++ codes "sum = [{ from = 0, amount = 7 }] }]\nlump = [{ month = 2, state = \"on\", amount = 5 }]\n"
     ++ codes "premium = { payers = [\"on\"], until = 2, every = 1 }\n"
 
+-- it reads as this product
 abbrev pub TermInsuranceReads : Type 0
 TermInsuranceReads = reads_text term_insurance ≡ Some (Ok (record {
   name = codes "t";
@@ -83,10 +84,11 @@ pub record StatesBreak : Type 0 where
   pub twice : Breaks (one_state (codes "1") (codes "states = [\"a\", \"a\"]\ninterest = []")) 3 3
   pub start : Breaks (one_state (codes "1") (codes "states = [\"a\"]\ninterest = []")) 6 0
 
--- a transition from a state to itself; a curve whose fault is of rule 8 stands before one whose fault is of rule 9;
--- a piece that is too large
+-- a transition from a state to itself; a piece that starts at the term; a curve whose fault is of rule 8 stands before
+-- one whose fault is of rule 9; a piece that is too large
 pub record CurvesBreak : Type 0 where
   pub itself : Breaks (two_states (no_interest ++ codes "transition = [{ from = \"a\", to = \"a\", rate = [] }]")) 7 0
+  pub at_the_term : Breaks (two_states (codes "interest = [{ from = 0, c = [0] }, { from = 2, c = [0] }]")) 8 1
   pub rule_8_first : Breaks (two_states (codes "interest = [{ from = 0, c = [0, 0, 0, 9000000000000000000] }]\n"
       ++ from_a_to_b (codes "{ from = 1, c = [0] }") [])) 8 4096
   pub too_large : Breaks (one_state (codes "1200")

@@ -1,22 +1,15 @@
 -- Rule 7 of a product file: its transitions.
-use Rattle.std.specs.Prelude.{ℕ, ◌==◌, codes, List, [], ◌∷◌, length, map, take, Bool, not, ◌&&◌}
-use Rattle.std.specs.Prelude.{Option, is_some, unwrap_or}
+use Rattle.std.specs.Prelude.{ℕ, ◌==◌, codes, List, length, map, take, Bool, not, ◌&&◌, Option, is_some, unwrap_or}
 use Rattle.std.specs.List.{list_any}
-use Rattle.toml.specs.Data.{Data, Members, as_table}
+use Rattle.toml.specs.Data.{Data, Members}
 use Rattle.model_specs.specs.Whole.{list_of}
-use Rattle.product_file.specs.Members.{has_no_key_but, text_at, array_at, text_of, items_of, item_at, members_of}
-use Rattle.product_file.specs.HeadRules.{may_have_array, state_of}
+use Rattle.product_file.specs.Members.{text_of, items_of, item_at, members_of}
+use Rattle.product_file.specs.Keys.{transition_keys, is_table_of}
+use Rattle.product_file.specs.HeadRules.{state_of}
 
--- the keys of a transition
-abbrev pub transition_keys : List (List ℕ)
-transition_keys = codes "from" ∷ codes "to" ∷ codes "rate" ∷ codes "sum" ∷ []
-
--- a transition is a table with these keys and types; `sum` may be absent
+-- a transition is a table of its keys
 abbrev pub is_transition : Data → Bool
-is_transition d =
-    let t = members_of d in
-    is_some (as_table d) && is_some (text_at (codes "from") t) && is_some (text_at (codes "to") t)
-    && is_some (array_at (codes "rate") t) && may_have_array (codes "sum") t && has_no_key_but transition_keys t
+is_transition d = is_table_of transition_keys d
 
 -- the transitions of the file
 abbrev pub transition_items : Members → List Data

@@ -1,4 +1,4 @@
-use crate::{Product, RowBreak, RuleBreak};
+use crate::Product;
 use curve_pieces::{Curve, Piece};
 use payment_plan::{Lump, PatternRule, Plan};
 use state_graph::Graph;
@@ -62,29 +62,4 @@ fn parts_are_read_back(rt: HostRuntime) -> Result<(), Fail> {
     assert_eq!(rt; product.rate(0).pieces(), [RATE].as_slice());
     assert_eq!(rt; product.plan().lumps(), [LUMP].as_slice());
     Ok(())
-}
-
-#[test]
-fn breaks_are_compared(rt: HostRuntime) {
-    let broken = RuleBreak {
-        rule: 8,
-        place: 4097,
-    };
-    assert_eq!(rt;
-        broken,
-        RuleBreak {
-            rule: 8,
-            place: 4097
-        }
-    );
-    assert_ne!(rt;
-        broken,
-        RuleBreak {
-            rule: 9,
-            place: 4097
-        }
-    );
-    let row = RowBreak { row: 3, part: 1 };
-    assert_eq!(rt; row, RowBreak { row: 3, part: 1 });
-    assert_ne!(rt; row, RowBreak { row: 3, part: 2 });
 }

@@ -5,14 +5,14 @@ use Rattle.std.proofs.lemmas.Option.{none-some}
 use Rattle.toml.specs.Data.{Members}
 use Rattle.model_specs.specs.Product.{Product}
 use Rattle.model_specs.specs.ValuationRules as model
-use Rattle.product_model.specs.declared.breaks.RuleBreak.{RuleBreak}
+use Rattle.rule_breaks.specs.declared.breaks.RuleBreak.{RuleBreak}
 use Rattle.product_file.specs.Reads.{reads, product_of, product_unless, broken_in_tree}
 use Rattle.product_file.specs.Verdict.{ReadsAs, ReadsProduct, BreaksInTree, IsNotToml}
 use Rattle.product_reader.specs.declared.read.ReadError.{ReadError}
 use Rattle.product_reader.specs.declared.read.ReadError.TheVariants.{NotToml, Rule, Memory}
 use Rattle.product_reader.specs.Readings.{IsReadingOf}
 use Rattle.product_reader.specs.Refusals.{ComesWhere}
-use Rattle.file_checks.specs.Broken.{break_of}
+use Rattle.rule_breaks.specs.Breaks.{break_of}
 
 -- no rule is broken: the product is read
 pub reads_product : (tree : Members) (product : Product) → broken_in_tree tree ≡ None → product ≡ product_of tree
@@ -23,10 +23,6 @@ reads_product tree product none same = ap (product_unless (product_of tree)) non
 pub reads_break : (tree : Members) (found : model.RuleBreak) → broken_in_tree tree ≡ Some found
     → reads tree ≡ Err found
 reads_break tree found some = ap (product_unless (product_of tree)) some
-
--- the bytes have one tree
-one_tree : (text : List ℕ) (a b : Members) → ReadsAs text a → ReadsAs text b → a ≡ b
-one_tree text a b x y = cc (x.document, y.document)
 
 -- from a found break to the tree's
 pub unbroken_of : (breaks : Option model.RuleBreak) (found : Option RuleBreak) → option_map break_of found ≡ breaks
@@ -61,7 +57,8 @@ same-rule a b e = cc e
 -- what the bytes read as, by any of their trees
 reading-of : (text : List ℕ) (tree other : Members) (r : Result Product model.RuleBreak) → ReadsAs text tree
     → ReadsAs text other → reads other ≡ r → reads tree ≡ r
-reading-of text tree other r told again h = ap reads (one_tree text tree other told again) ∙ h
+reading-of text tree other r told again h =
+    let same : tree ≡ other = cc (told.document, again.document) in ap reads same ∙ h
 
 -- the answers about the bytes of a tree
 pub ok_of_tree : (text : List ℕ) (tree : Members) (r : Result Product ReadError) → ReadsAs text tree
@@ -93,7 +90,12 @@ rule_of_tree text tree (Ok p) found told h =
 rule_of_tree text tree (Err NotToml) found told h = absurd h
 rule_of_tree text tree (Err (Rule other)) found told h =
     record {
-      only = λ e. record { tree = tree; reads_as = told; broken = refused-by (reads tree) other found h (same-rule other found e) };
+      only = λ e. record {
+        tree = tree;
+        reads_as = told;
+        broken = refused-by (reads tree) other found h
+            (same-rule other found e);
+      };
       always = λ b. inl (ap (λ f. Err (Rule f)) (same-refusal (reads tree) other found h
           (reading-of text tree b.tree (Err (break_of found)) told b.reads_as b.broken)));
     }

@@ -1,9 +1,9 @@
 -- The parts that a file gives are those of its product, and fit together.
-use Rattle.std.proofs.Common.{◌≡◌, ◌≢◌, ℕ, ◌<◌, ◌≤◌, List, [], ◌∷◌, length, map, ap, sym, ◌∙◌}
-use Rattle.std.proofs.Common.{refl}
+use Rattle.std.proofs.Common.{◌≡◌, ◌≢◌, ℕ, ◌<◌, ◌≤◌, List, [], ◌∷◌, length, map, ap, sym, ◌∙◌, refl}
 use Rattle.std.specs.Prelude.{slice_index_or}
 use Rattle.std.proofs.lemmas.List.{length-map}
 use Rattle.std.proofs.lemmas.List.Elements.{All-map}
+use Rattle.std.proofs.lemmas.Simd.{map-map}
 use Rattle.toml.specs.Data.{Members}
 use Rattle.model_specs.specs.Whole.{list_of}
 use Rattle.model_specs.specs.Product.{Product, Transition, Step, Sojourn, Lump, PremiumPattern}
@@ -16,7 +16,6 @@ use Rattle.product_model.specs.Views.{graph_of, curve_of, payments_of}
 use Rattle.product_file.specs.TransitionRule.{transition_items, pair_of}
 use Rattle.product_file.specs.HeadRules.{state_names}
 use Rattle.product_file.specs.Reads.{product_of, transition_of}
-use Rattle.product_file.proofs.Wholes.{map-twice}
 use Rattle.product_reader.specs.Parts.{rate_of, sum_of}
 
 -- a graph by its names and pairs
@@ -40,7 +39,7 @@ pub graph_by_pairs : (tree : Members) (names : List (List ℕ)) (pairs : List (�
 graph_by_pairs tree names pairs same_names same_pairs =
     ap (λ ns. graph_with ns pairs) same_names
     ∙ ap (graph_with (state_names tree))
-    (same_pairs ∙ sym (map-twice (λ t. (t.from, t.to)) (transition_of tree) (transition_items tree)))
+    (same_pairs ∙ sym (map-map (λ t. (t.from, t.to)) (transition_of tree) (transition_items tree)))
 
 -- the payments of a well-formed product obey rules 10 to 14
 pub payments_are_good : (p : Product) → IsWellFormed p → IsAllowed (payments_of p)
@@ -76,7 +75,7 @@ payments_are_good p h = record {
 
 -- the sums of a file's transitions
 pub sums_of_file : (tree : Members) → map (sum_of tree) (transition_items tree) ≡ (payments_of (product_of tree)).sums
-sums_of_file tree = sym (map-twice (λ t. t.sum) (transition_of tree) (transition_items tree))
+sums_of_file tree = sym (map-map (λ t. t.sum) (transition_of tree) (transition_items tree))
 
 -- the parts of a product, with its rates as curves over the term
 abbrev pub parts_of_product : Product → Parts
@@ -147,7 +146,7 @@ pub rates_of_file : (tree : Members)
     → map (rate_of tree) (transition_items tree)
     ≡ map (λ t. curve_of (product_of tree) t.rate) (product_of tree).transitions
 rates_of_file tree =
-    sym (map-twice (λ t. curve_of (product_of tree) t.rate) (transition_of tree) (transition_items tree))
+    sym (map-map (λ t. curve_of (product_of tree) t.rate) (transition_of tree) (transition_items tree))
 
 -- the payments of a file's product, by their parts
 abbrev payments_with : ℕ → ℕ → List (List Step) → List Sojourn → List Lump → PremiumPattern → Payments

@@ -4,7 +4,7 @@ use Rattle.model_specs.specs.Product.{Product}
 use Rattle.model_specs.specs.ValuationRules as model
 use Rattle.product_reader.specs.declared.read.ReadError.{ReadError}
 use Rattle.product_reader.specs.declared.read.ReadError.TheVariants.{NotToml, Rule, Memory}
-use Rattle.file_checks.specs.Broken.{break_of}
+use Rattle.rule_breaks.specs.Breaks.{break_of}
 
 -- the answer is what the tree reads as, or memory was refused
 abbrev pub IsReadingOf : Result Product ReadError → Result Product model.RuleBreak → Type 0

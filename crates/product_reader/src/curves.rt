@@ -1,7 +1,8 @@
 //! The curves of a file that breaks no rule.
 
-ghost use Rattle.std.specs.Prelude.{◌≡◌, ◌<◌, ◌≤◌, All, IfOk, codes, length, map};
+ghost use Rattle.std.specs.Prelude.{◌≡◌, ◌<◌, ◌≤◌, All, IfOk, length, map};
 ghost use Rattle.toml.specs.View.{view, table_view};
+ghost use Rattle.named_numbers.specs.Numbers.{most_months};
 ghost use Rattle.model_specs.specs.Whole.{natural_part};
 ghost use Rattle.model_specs.specs.RecordRules.{IsCurve, IsBoundedCurve, IsWellFormed};
 ghost use Rattle.curve_pieces.specs.Records.{record_of, records_of};
@@ -12,34 +13,27 @@ ghost use Rattle.product_file.specs.Reads.{product_of};
 ghost use Rattle.product_model.specs.Views.{curve_of};
 ghost use Rattle.product_reader.specs.Parts.{rate_of};
 
-use crate::dates::months;
 use curve_pieces::{Curve, Piece};
-use file_checks::{coefficient_at, item, items_of, items_within, start_of, transitions};
+use file_tree::{
+    item, items_of, items_within, month_of, piece_coefficients, start_of, transitions,
+};
 use std::alloc::{AllocError, Global};
 use toml::{Table, Value};
 
 // A piece, with 0 for each coefficient that the file leaves out.
 fn piece_from(value: &Value) -> Piece
-    requires { natural_part (start_of (view value.now)) ≤ 1200 }
+    requires { natural_part (start_of (view value.now)) ≤ most_months }
     ensures { record_of result ≡ piece_of (view value.now) }
 {
-    let c = items_within(value, "c");
     Piece {
-        from: months(start_of(value)),
-        c: [
-            coefficient_at(c, 0),
-            coefficient_at(c, 1),
-            coefficient_at(c, 2),
-            coefficient_at(c, 3),
-            coefficient_at(c, 4),
-            coefficient_at(c, 5),
-        ],
+        from: month_of(start_of(value)),
+        c: piece_coefficients(value),
     }
 }
 
 // The pieces of a curve.
 fn pieces_from(alloc: Global, values: &[Value]) -> Result<Vec<Piece>, AllocError>
-    requires { All (λ d. natural_part (start_of d) ≤ 1200) (map view values.now) }
+    requires { All (λ d. natural_part (start_of d) ≤ most_months) (map view values.now) }
     ensures { IfOk result (λ pieces. records_of pieces.items ≡ map piece_of (map view values.now)) }
 {
     let mut pieces = Vec::new(alloc);
@@ -52,17 +46,14 @@ fn pieces_from(alloc: Global, values: &[Value]) -> Result<Vec<Piece>, AllocError
 // The curve of some pieces that obey rules 8 and 9.
 fn curve_from(alloc: Global, values: &[Value], months: u32) -> Result<Curve, AllocError>
     requires some_month { 1 ≤ months }
-    requires most_months { months ≤ 1200 }
+    requires most_months { months ≤ most_months }
     requires rule_8 { IsCurve months (map piece_of (map view values.now)) }
     requires rule_9 { IsBoundedCurve months (map piece_of (map view values.now)) }
     ensures { IfOk result (λ curve. curve ≡ record { pieces = map piece_of (map view values.now); months = months }) }
 {
     let pieces = pieces_from(alloc, values)?;
-    match Curve::new(alloc, pieces, months) {
-        Ok(curve) => Ok(curve),
-        // the pieces obey the rules, so only memory can be wanting
-        Err(_) => Err(AllocError),
-    }
+    // the pieces obey rules 8 and 9, so they are not refused
+    Ok(Curve::new(alloc, pieces, months).unwrap())
 }
 
 /// The force of interest.
@@ -83,11 +74,8 @@ fn rate_from(alloc: Global, tree: &Table, k: usize, months: u32) -> Result<Curve
     ensures { IfOk result (λ curve. curve ≡
         rate_of (table_view tree.now) (item_at (transition_items (table_view tree.now)) k)) }
 {
-    curve_from(
-        alloc,
-        items_within(item(transitions(tree), k), "rate"),
-        months,
-    )
+    let pieces = items_within(item(transitions(tree), k), "rate");
+    curve_from(alloc, pieces, months)
 }
 
 /// The intensities of the transitions, in the file's order.

@@ -1,7 +1,7 @@
 //! The names of the states, and the states and transitions of a file.
 
-ghost use Rattle.std.specs.Prelude.{◌≡◌, IfOk, length, map, None};
-ghost use Rattle.toml.specs.View.{view, table_view};
+ghost use Rattle.std.specs.Prelude.{◌≡◌, IfOk, map};
+ghost use Rattle.toml.specs.View.{table_view};
 ghost use Rattle.model_specs.specs.RecordRules.{IsWellFormed};
 ghost use Rattle.state_graph.specs.StateGraphs.{texts_of};
 ghost use Rattle.product_file.specs.HeadRules.{state_names};
@@ -9,7 +9,7 @@ ghost use Rattle.product_file.specs.TransitionRule.{pair_of, transition_items};
 ghost use Rattle.product_file.specs.Reads.{product_of};
 ghost use Rattle.product_model.specs.Views.{graph_of};
 
-use file_checks::{item, state_index, states, text_in, transitions};
+use file_tree::{item, pair_of, states, text_in, transitions};
 use state_graph::Graph;
 use std::alloc::{AllocError, Global};
 use toml::Table;
@@ -28,16 +28,13 @@ fn names_of(alloc: Global, tree: &Table) -> Result<Vec<Vec<u8>>, AllocError>
 
 // The pairs of states of the transitions, in the file's order.
 fn pairs_of(alloc: Global, tree: &Table) -> Result<Vec<(usize, usize)>, AllocError>
-    ensures { IfOk result (λ pairs. pairs.items ≡ map (pair_of (table_view tree.now)) (transition_items (table_view tree.now))) }
+    ensures { IfOk result (λ pairs. pairs.items ≡
+        map (pair_of (table_view tree.now)) (transition_items (table_view tree.now))) }
 {
     let transitions = transitions(tree);
     let mut pairs = Vec::new(alloc);
     for k in 0..transitions.len() {
-        let transition = item(transitions, k);
-        pairs.push((
-            state_index(tree, "from", transition),
-            state_index(tree, "to", transition),
-        ))?;
+        pairs.push(pair_of(tree, item(transitions, k)))?;
     }
     Ok(pairs)
 }

@@ -2,7 +2,6 @@
 #![tactic(auto)]
 
 mod curves;
-mod dates;
 mod head;
 mod payments;
 mod product;

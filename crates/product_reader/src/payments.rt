@@ -2,6 +2,7 @@
 
 ghost use Rattle.std.specs.Prelude.{◌≡◌, ◌<◌, ◌≤◌, All, IfOk, length, map};
 ghost use Rattle.toml.specs.View.{view, table_view};
+ghost use Rattle.named_numbers.specs.Numbers.{most_months};
 ghost use Rattle.model_specs.specs.Whole.{natural_part};
 ghost use Rattle.model_specs.specs.RecordRules.{IsWellFormed};
 ghost use Rattle.payment_plan.specs.Records.{record_of, steps_of, sums_of, sojourns_of, lump_of, lumps_of};
@@ -18,45 +19,28 @@ ghost use Rattle.product_file.specs.PatternRules.{pattern_of, payer_index, payer
 ghost use Rattle.product_file.specs.Reads.{product_of};
 ghost use Rattle.product_model.specs.Views.{payments_of};
 
-use crate::dates::months;
-use file_checks::{
-    coefficient_at, is_absent, is_format_1, item, items_of, items_within, payer_index, payers,
-    premium_whole, sojourns, start_of, state_index, steps_of, sum_of, transitions, whole_within,
+use file_tree::{
+    amount_of, is_absent, item, lumps, month_of, payer_index, payers, premium_whole, sojourns,
+    start_of, state_index, steps_of, sum_of, transitions, whole_within,
 };
 use payment_plan::{Lump, PatternRule, Plan, StepAmount};
 use std::alloc::{AllocError, Global};
 use toml::{Table, Value};
 
-// The coefficients of a step: a constant amount in format 1, and else those that the file gives.
-fn coefficients_from(tree: &Table, value: &Value) -> [i64; 4]
-    ensures { result ≡ (step_of (table_view tree.now) (view value.now)).c }
-{
-    if is_format_1(tree) {
-        return [whole_within(value, "amount"), 0, 0, 0];
-    }
-    let c = items_within(value, "c");
-    [
-        coefficient_at(c, 0),
-        coefficient_at(c, 1),
-        coefficient_at(c, 2),
-        coefficient_at(c, 3),
-    ]
-}
-
 // A step.
 fn step_from(tree: &Table, value: &Value) -> StepAmount
-    requires { natural_part (start_of (view value.now)) ≤ 1200 }
+    requires { natural_part (start_of (view value.now)) ≤ most_months }
     ensures { record_of result ≡ step_of (table_view tree.now) (view value.now) }
 {
     StepAmount {
-        from: months(start_of(value)),
-        c: coefficients_from(tree, value),
+        from: month_of(start_of(value)),
+        c: amount_of(tree, value),
     }
 }
 
 // The steps of a payment.
 fn steps_from(alloc: Global, tree: &Table, values: &[Value]) -> Result<Vec<StepAmount>, AllocError>
-    requires { All (λ d. natural_part (start_of d) ≤ 1200) (map view values.now) }
+    requires { All (λ d. natural_part (start_of d) ≤ most_months) (map view values.now) }
     ensures { IfOk result (λ steps. steps_of steps.items ≡ map (step_of (table_view tree.now)) (map view values.now)) }
 {
     let mut steps = Vec::new(alloc);
@@ -120,9 +104,9 @@ fn lump_from(tree: &Table, k: usize) -> Lump
     requires inside { k < length (lump_items (table_view tree.now)) }
     ensures { lump_of result ≡ lumps.lump_of (table_view tree.now) (item_at (lump_items (table_view tree.now)) k) }
 {
-    let value = item(items_of(tree, "lump"), k);
+    let value = item(lumps(tree), k);
     Lump {
-        month: months(whole_within(value, "month")),
+        month: month_of(whole_within(value, "month")),
         state: state_index(tree, "state", value),
         amount: whole_within(value, "amount"),
     }
@@ -133,7 +117,7 @@ fn lumps_from(alloc: Global, tree: &Table) -> Result<Vec<Lump>, AllocError>
     requires { IsWellFormed (product_of (table_view tree.now)) }
     ensures { IfOk result (λ lumps. lumps_of lumps.items ≡ (product_of (table_view tree.now)).lumps) }
 {
-    let count = items_of(tree, "lump").len();
+    let count = lumps(tree).len();
     let mut lumps = Vec::new(alloc);
     for k in 0..count {
         lumps.push(lump_from(tree, k))?;
@@ -143,7 +127,8 @@ fn lumps_from(alloc: Global, tree: &Table) -> Result<Vec<Lump>, AllocError>
 
 // The payers of the premium table.
 fn payers_from(alloc: Global, tree: &Table) -> Result<Vec<usize>, AllocError>
-    ensures { IfOk result (λ states. states.items ≡ map (payer_index (table_view tree.now)) (payer_items (table_view tree.now))) }
+    ensures { IfOk result (λ states. states.items ≡
+        map (payer_index (table_view tree.now)) (payer_items (table_view tree.now))) }
 {
     let values = payers(tree);
     let mut states = Vec::new(alloc);
@@ -167,8 +152,8 @@ fn pattern_from(alloc: Global, tree: &Table) -> Result<PatternRule, AllocError>
     }
     Ok(PatternRule {
         payers: payers_from(alloc, tree)?,
-        until: months(premium_whole(tree, "until")),
-        every: months(premium_whole(tree, "every")),
+        until: month_of(premium_whole(tree, "until")),
+        every: month_of(premium_whole(tree, "every")),
     })
 }
 

@@ -7,10 +7,9 @@ ghost use Rattle.model_specs.specs.RecordRules.{IsWellFormed};
 ghost use Rattle.product_file.specs.Reads.{product_of};
 
 use crate::curves::{interest_from, rates_from};
-use crate::dates::months;
 use crate::head::graph_from;
 use crate::payments::plan_from;
-use file_checks::{state_of, text_of, whole_of};
+use file_tree::{month_of, state_of, text_of, whole_of};
 use product_model::Product;
 use std::alloc::{AllocError, Global};
 use toml::Table;
@@ -34,7 +33,7 @@ fn months_from(tree: &Table) -> u32
     requires { IsWellFormed (product_of (table_view tree.now)) }
     ensures { result ≡ (product_of (table_view tree.now)).months }
 {
-    months(whole_of(tree, "months"))
+    month_of(whole_of(tree, "months"))
 }
 
 // The common denominator.

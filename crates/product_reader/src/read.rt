@@ -1,8 +1,8 @@
 //! Reads a product file.
 
-ghost use Rattle.std.specs.Prelude.{◌≡◌, IfOk};
+ghost use Rattle.std.specs.Prelude.{IfOk};
 ghost use Rattle.toml.specs.View.{table_view};
-ghost use Rattle.file_checks.specs.Broken.{break_of};
+ghost use Rattle.rule_breaks.specs.Breaks.{break_of};
 ghost use Rattle.product_file.specs.Reads.{reads};
 ghost use Rattle.product_file.specs.Verdict.{ReadsProduct, BreaksInTree, IsNotToml};
 ghost use Rattle.product_reader.specs.Readings.{IsReadingOf};
@@ -10,7 +10,9 @@ ghost use Rattle.product_reader.specs.Refusals.{ComesWhere};
 
 use crate::product::product_from;
 use file_checks::first_break;
-use product_model::{Product, RuleBreak};
+use product_file::read_products_are_well_formed;
+use product_model::Product;
+use rule_breaks::RuleBreak;
 use std::alloc::{AllocError, Global};
 use thiserror::Error;
 use toml::Table;
@@ -30,6 +32,8 @@ pub enum ReadError {
 fn read_tree(alloc: Global, tree: &Table) -> Result<Product, ReadError>
     ensures { IsReadingOf result (reads (table_view tree.now)) }
 {
+    // a tree that breaks no rule reads as a product that is well formed
+    read_products_are_well_formed();
     match first_break(alloc, tree) {
         Ok(Some(found)) => Err(ReadError::Rule(found)),
         Ok(None) => match product_from(alloc, tree) {
@@ -45,7 +49,8 @@ fn read_tree(alloc: Global, tree: &Table) -> Result<Product, ReadError>
 pub fn read_product(alloc: Global, text: &[u8]) -> Result<Product, ReadError>
     ensures ok { IfOk result (ReadsProduct text.now) }
     ensures not_toml { ComesWhere result ReadError.NotToml (IsNotToml text.now) }
-    ensures rule { (found : RuleBreak) → ComesWhere result (ReadError.Rule found) (BreaksInTree text.now (break_of found)) }
+    ensures rule { (found : RuleBreak) → ComesWhere result (ReadError.Rule found)
+        (BreaksInTree text.now (break_of found)) }
 {
     match toml::table_from_slice(alloc, text) {
         Ok(tree) => read_tree(alloc, &tree),

@@ -2,7 +2,8 @@
 use crate::{ReadError, read_product};
 use curve_pieces::Piece;
 use payment_plan::{Lump, StepAmount};
-use product_model::{Product, RuleBreak};
+use product_model::Product;
+use rule_breaks::RuleBreak;
 use std::alloc::Global;
 use std::test::Fail;
 

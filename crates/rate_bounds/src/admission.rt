@@ -3,10 +3,11 @@
 ghost use Rattle.std.specs.Prelude.{◌≡◌, IfOk, Some, None};
 ghost use Rattle.model_specs.specs.ValuationRules.{IsAdmissible, first_broken};
 ghost use Rattle.rate_bounds.specs.Admissions.{KeepsLedgers};
-ghost use Rattle.rate_bounds.specs.Breaks.{break_of, broken_by_month};
+ghost use Rattle.rule_breaks.specs.Breaks.{break_of};
+ghost use Rattle.rate_bounds.specs.Breaks.{broken_by_month};
 ghost use Rattle.rate_bounds.specs.MonthTables.{AreCurvesUpTo};
 ghost use Rattle.rate_bounds.specs.declared.admission.AdmitError.TheVariants.{Memory};
-ghost use Rattle.product_model.specs.declared.breaks.RuleBreak as breaks;
+ghost use Rattle.rule_breaks.specs.declared.breaks.RuleBreak as breaks;
 
 use crate::admitted::Admitted;
 use crate::curves::{MonthCurves, curves_of_months};
@@ -16,7 +17,8 @@ use crate::plan_bound::bound1024;
 use crate::table::bounds_of_months;
 use named_numbers::MOST_BOUND;
 use payment_plan::Which;
-use product_model::{Product, RuleBreak};
+use product_model::Product;
+use rule_breaks::RuleBreak;
 use std::alloc::{AllocError, Global};
 use thiserror::Error;
 

@@ -1,13 +1,15 @@
 //! The first month that breaks one of rules 15 to 17.
 
 ghost use Rattle.std.specs.Prelude.{◌≡◌, option_map};
-ghost use Rattle.rate_bounds.specs.Breaks.{break_of, broken_by_month, first_breaking, obeys};
+ghost use Rattle.rule_breaks.specs.Breaks.{break_of};
+ghost use Rattle.rate_bounds.specs.Breaks.{broken_by_month, first_breaking, obeys};
 ghost use Rattle.rate_bounds.specs.MonthTables.{AreCurvesUpTo};
 
 use crate::curves::MonthCurves;
 use crate::rates::month_unit;
 use crate::rules::{MonthRule, obeys};
-use product_model::{Product, RuleBreak};
+use product_model::Product;
+use rule_breaks::RuleBreak;
 
 // The first month that breaks a rule.
 fn first_breaking(product: &Product, curves: &[MonthCurves], rule: MonthRule) -> Option<u32>

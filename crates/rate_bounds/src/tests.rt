@@ -7,7 +7,8 @@ use crate::{AdmitError, Admitted, MonthBounds, MonthCurves, admit, month_bounds,
 use curve_pieces::{Curve, Piece};
 use ledger_laws::admissible_products_obey;
 use payment_plan::{Lump, PatternRule, Plan, StepAmount, Which};
-use product_model::{Product, RuleBreak};
+use product_model::Product;
+use rule_breaks::RuleBreak;
 use state_graph::Graph;
 use std::alloc::{AllocError, Global};
 use std::test::Fail;

@@ -5,9 +5,9 @@ use Rattle.std.specs.declared.alloc.Global.{Global}
 use Rattle.named_numbers.specs.Numbers.{most_file_bytes}
 use Rattle.io_ports.specs.Files.{AnswersFrom}
 use Rattle.command_words.specs.Readings.{Request, AreReadAs, HaveReading}
-use Rattle.file_checks.specs.Broken.{break_of}
+use Rattle.rule_breaks.specs.Breaks.{break_of}
 use Rattle.model_specs.specs.Product.{Product}
-use Rattle.product_model.specs.declared.breaks.RuleBreak.{RuleBreak}
+use Rattle.rule_breaks.specs.declared.breaks.RuleBreak.{RuleBreak}
 use Rattle.thiele_cli.specs.declared.answer.Answer.{Answer}
 use Rattle.thiele_cli.specs.declared.answer.Answer.TheVariants as answer
 use Rattle.thiele_cli.specs.declared.question.Question.{Question}

@@ -1,6 +1,6 @@
 -- The verdict on the bytes of a file, as the program keeps it.
 use Rattle.std.specs.Prelude.{ℕ, List}
-use Rattle.file_checks.specs.Broken.{break_of}
+use Rattle.rule_breaks.specs.Breaks.{break_of}
 use Rattle.product_file.specs.Verdict.{IsNotToml, IsValid, Breaks}
 use Rattle.thiele_cli.specs.declared.verdict.Verdict.{Verdict}
 use Rattle.thiele_cli.specs.declared.verdict.Verdict.TheVariants as verdict

@@ -2,8 +2,8 @@
 ghost use Rattle.std.specs.Prelude.{◌≡◌};
 ghost use Rattle.thiele_cli.specs.Ends.{status_of};
 
-use product_model::RuleBreak;
 use reserve_report::Report;
+use rule_breaks::RuleBreak;
 
 /// How a run ended. `run` says when each end comes.
 #[derive(Clone, Copy, Debug, PartialEq, Eq)]

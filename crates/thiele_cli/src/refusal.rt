@@ -3,8 +3,8 @@ ghost use Rattle.std.specs.Prelude.{◌≡◌, IfOk};
 ghost use Rattle.thiele_cli.specs.Refusals.{refused_end, length_line, rule_line, line_of};
 
 use crate::end::End;
-use product_model::RuleBreak;
 use reserve_report::push_decimal;
+use rule_breaks::RuleBreak;
 use std::alloc::{AllocError, Global};
 
 /// Why there is no answer.

@@ -4,7 +4,7 @@ use crate::end::End;
 use crate::pieces::write_pieces;
 use crate::run::run;
 use io_ports::{MemoryShelf, MemorySink, Sink, SinkFault};
-use product_model::RuleBreak;
+use rule_breaks::RuleBreak;
 use std::alloc::{AllocError, Global};
 use std::test::Fail;
 

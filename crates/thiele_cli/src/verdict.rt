@@ -2,9 +2,9 @@
 ghost use Rattle.std.specs.Prelude.{IfOk};
 ghost use Rattle.thiele_cli.specs.Verdicts.{IsVerdictOn};
 
-use product_model::RuleBreak;
 use product_reader::{ReadError, read_product};
 use rate_bounds::{AdmitError, Admitted, admit};
+use rule_breaks::RuleBreak;
 use std::alloc::{AllocError, Global};
 
 /// What the bytes of a file are: a product that is admitted, no TOML text, or a file that breaks this rule first.

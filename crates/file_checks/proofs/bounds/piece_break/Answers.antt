@@ -32,7 +32,8 @@ pub returns-then-not-is_bounded_piece-clause-value : goal.returns-then-not-is_bo
 returns-then-not-is_bounded_piece-clause-value c =
     let tree = table_view c.args.tree.now in
     let items = map view c.args.pieces.now in
-    first_of-at (length items) c.loop-i.i (is_bounded_piece tree items) (omega (arith, length-map c.args.pieces.now view))
+    first_of-at (length items) c.loop-i.i (is_bounded_piece tree items)
+    (omega (arith, length-map c.args.pieces.now view))
     c.loop-i.invariant (sym c.is_bounded_piece.ensures ∙ c.if-not-is_bounded_piece.true)
     ∙ ap first_failed (rule_9_is tree items)
 

@@ -10,7 +10,11 @@ use Rattle.file_checks.proofs.bounds.size_break.Goals as goal
 
 pub overflow_add-count : goal.overflow_add-count
 overflow_add-count c =
-    omega (arith, transitions-le (table_view c.args.tree.now) c.requires.names c.requires.transitions, c.transitions.ensures.count)
+    omega (
+      arith,
+      transitions-le (table_view c.args.tree.now) c.requires.names c.requires.transitions,
+      c.transitions.ensures.count,
+    )
 
 pub piece_break-requires-clause-pieces : goal.piece_break-requires-clause-pieces
 piece_break-requires-clause-pieces c =
@@ -20,7 +24,11 @@ piece_break-requires-clause-pieces c =
 
 pub place-requires-clause-list : goal.place-requires-clause-list
 place-requires-clause-list c =
-    omega (arith, transitions-le (table_view c.args.tree.now) c.requires.names c.requires.transitions, c.transitions.ensures.count)
+    omega (
+      arith,
+      transitions-le (table_view c.args.tree.now) c.requires.names c.requires.transitions,
+      c.transitions.ensures.count,
+    )
 
 pub returns-in-Some : goal.returns-in-Some
 returns-in-Some c =

@@ -1,4 +1,4 @@
-use Rattle.std.proofs.Common.{◌≡◌, false, map, length, below_more, ap, sym, ◌∙◌, arith}
+use Rattle.std.proofs.Common.{false, map, length, below_more, ap, sym, ◌∙◌, arith}
 use Rattle.toml.specs.Data.{boolean}
 use Rattle.toml.specs.View.{view, table_view}
 use Rattle.product_file.specs.Checks.{first_failed}

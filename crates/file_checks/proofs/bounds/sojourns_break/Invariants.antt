@@ -9,4 +9,5 @@ use Rattle.file_checks.proofs.bounds.sojourns_break.Given as goal
 abbrev pub invariant-loop-s : goal.invariant-loop-s
 invariant-loop-s l =
     (j : ℕ) → j < l.s
-    → first_failed (steps_rule_11 (table_view l.tree) (steps_items (item_at (sojourn_items (table_view l.tree)) j))) ≡ None
+    → first_failed (steps_rule_11 (table_view l.tree) (steps_items (item_at (sojourn_items (table_view l.tree)) j)))
+    ≡ None

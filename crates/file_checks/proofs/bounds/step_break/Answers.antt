@@ -24,7 +24,8 @@ pub returns-then-not-is_bounded_step-clause-value : goal.returns-then-not-is_bou
 returns-then-not-is_bounded_step-clause-value c =
     let tree = table_view c.args.tree.now in
     let items = map view c.args.steps.now in
-    first_of-at (length items) c.loop-i.i (is_bounded_step_at tree items) (omega (arith, length-map c.args.steps.now view))
+    first_of-at (length items) c.loop-i.i (is_bounded_step_at tree items)
+    (omega (arith, length-map c.args.steps.now view))
     c.loop-i.invariant (sym c.is_bounded_step.ensures ∙ c.if-not-is_bounded_step.true)
     ∙ ap first_failed (rule_11_is tree items)
 

@@ -1,11 +1,10 @@
-use Rattle.std.proofs.Common.{◌≡◌, false, map, below_more, ap, sym, ◌∙◌, arith}
+use Rattle.std.proofs.Common.{false, map, below_more, ap, sym, ◌∙◌, arith}
 use Rattle.toml.specs.Data.{boolean}
 use Rattle.toml.specs.View.{view, table_view}
 use Rattle.product_file.specs.Checks.{first_failed}
 use Rattle.product_file.specs.Members.{item_at}
 use Rattle.product_file.specs.TransitionRule.{transition_items}
 use Rattle.product_file.specs.PaymentRules.{sum_items, steps_rule_11}
-use Rattle.file_checks.specs.Lists.{AreInOrder}
 use Rattle.file_checks.proofs.BoundLemmas.{sum_in_order, sum_obeys, AreInOrder-same}
 use Rattle.file_checks.proofs.Checks.{first_of_lists-at, first_of_lists-none}
 use Rattle.file_checks.proofs.TransitionLemmas.{transitions-le}
@@ -22,7 +21,11 @@ step_break-requires-clause-in_order c =
 
 pub place-requires-clause-list : goal.place-requires-clause-list
 place-requires-clause-list c =
-    omega (arith, transitions-le (table_view c.args.tree.now) c.requires.names c.requires.transitions, c.transitions-transitions.ensures.count)
+    omega (
+      arith,
+      transitions-le (table_view c.args.tree.now) c.requires.names c.requires.transitions,
+      c.transitions-transitions.ensures.count,
+    )
 
 pub returns-in-Some : goal.returns-in-Some
 returns-in-Some c =

@@ -10,4 +10,5 @@ use Rattle.file_checks.proofs.bounds.sums_break.Given as goal
 abbrev pub invariant-loop-k : goal.invariant-loop-k
 invariant-loop-k l =
     (j : ℕ) → j < l.k
-    → first_failed (steps_rule_11 (table_view l.tree) (sum_items (item_at (transition_items (table_view l.tree)) j))) ≡ None
+    → first_failed (steps_rule_11 (table_view l.tree)
+    (sum_items (item_at (transition_items (table_view l.tree)) j))) ≡ None

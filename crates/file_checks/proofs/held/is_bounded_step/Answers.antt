@@ -7,5 +7,5 @@ pub returns-then-is_bounded : goal.returns-then-is_bounded
 returns-then-is_bounded c =
     c.has_small_amounts.ensures
     ∙ bounded_step_is (table_view c.args.tree.now) (map view c.args.steps.now) c.args.i c.months_held-months.result
-    c.step_coefficients-c.result (view c.item.result.now) c.item.ensures c.step_coefficients-c.ensures
+    c.amount_of-c.result (view c.item.result.now) c.item.ensures c.amount_of-c.ensures
     c.months_held-months.ensures.value (sym c.is_bounded.ensures ∙ c.if-is_bounded.true)

@@ -4,7 +4,7 @@ use Rattle.product_file.specs.Members.{item_at}
 use Rattle.product_file.specs.LumpRule.{lump_items, is_good_lump}
 use Rattle.file_checks.specs.Slots.{is_fair_lump, slot_of}
 use Rattle.file_checks.proofs.Checks.{first_of-at, first_of-none}
-use Rattle.file_checks.proofs.LumpLemmas.{unfair_is_bad, seen_is_bad, seen_more, seen_none, few_lumps}
+use Rattle.file_checks.proofs.LumpLemmas.{unfair_is_bad, seen_is_bad, seen_more, few_lumps}
 use Rattle.file_checks.proofs.lump.first_bad_lump.Goals as goal
 
 pub overflow_cast-result : goal.overflow_cast-result

@@ -1,7 +1,5 @@
 use Rattle.std.proofs.Common.{arith}
 use Rattle.toml.specs.View.{view, table_view}
-use Rattle.model_specs.specs.Whole.{natural_part}
-use Rattle.file_checks.specs.Slots.{slot_of, slot_count}
 use Rattle.file_checks.proofs.LumpLemmas.{slot_of-within, months-le}
 use Rattle.file_checks.proofs.lump.slot_of.Goals as goal
 
@@ -19,4 +17,10 @@ overflow_add-result c =
 pub returns-clause-within : goal.returns-clause-within
 returns-clause-within c =
     let tree = table_view c.args.tree.now in
-    omega (arith, c.natural_within.ensures, c.state_index.ensures, slot_of-within tree (view c.args.value.now) c.requires.names c.requires.fair)
+    omega (
+      arith,
+      c.natural_within.ensures,
+      c.state_index.ensures,
+      slot_of-within tree (view c.args.value.now)
+          c.requires.names c.requires.fair,
+    )

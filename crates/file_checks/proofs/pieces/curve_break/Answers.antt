@@ -1,5 +1,4 @@
 use Rattle.std.proofs.Common.{[], ap, sym, ◌∙◌, arith}
-use Rattle.std.proofs.lemmas.List.{length-map}
 use Rattle.toml.specs.View.{table_view}
 use Rattle.product_file.specs.Checks.{first_failed}
 use Rattle.product_file.specs.CurveRules.{rule_8_of, curve_items}
@@ -10,7 +9,11 @@ use Rattle.file_checks.proofs.pieces.curve_break.Goals as goal
 
 pub place-requires-clause-list : goal.place-requires-clause-list
 place-requires-clause-list c =
-    omega (arith, transitions-le (table_view c.args.tree.now) c.requires.names c.requires.transitions, c.transitions.ensures.count)
+    omega (
+      arith,
+      transitions-le (table_view c.args.tree.now) c.requires.names c.requires.transitions,
+      c.transitions.ensures.count,
+    )
 
 pub returns-in-Some : goal.returns-in-Some
 returns-in-Some c =
@@ -27,4 +30,8 @@ returns c =
 
 pub overflow_add-count : goal.overflow_add-count
 overflow_add-count c =
-    omega (arith, transitions-le (table_view c.args.tree.now) c.requires.names c.requires.transitions, c.transitions.ensures.count)
+    omega (
+      arith,
+      transitions-le (table_view c.args.tree.now) c.requires.names c.requires.transitions,
+      c.transitions.ensures.count,
+    )

@@ -1,6 +1,6 @@
 use Rattle.std.proofs.Common.{below_more, ap, sym, ◌∙◌, arith}
 use Rattle.model_specs.specs.MonthNumbers.{bernstein_numerators}
-use Rattle.file_checks.specs.Lists.{are_small}
+use Rattle.product_file.specs.PaymentRules.{are_small}
 use Rattle.file_checks.proofs.SizeLemmas.{all_of, all_of-fails}
 use Rattle.file_checks.proofs.sizes.has_small_amounts.Goals as goal
 

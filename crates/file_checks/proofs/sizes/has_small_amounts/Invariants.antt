@@ -1,6 +1,6 @@
 use Rattle.std.proofs.Common.{◌≡◌, ℕ, ◌<◌, true}
 use Rattle.model_specs.specs.MonthNumbers.{bernstein_numerators}
-use Rattle.file_checks.specs.Lists.{are_small}
+use Rattle.product_file.specs.PaymentRules.{are_small}
 use Rattle.file_checks.proofs.sizes.has_small_amounts.Given as goal
 
 -- the months so far have small amounts

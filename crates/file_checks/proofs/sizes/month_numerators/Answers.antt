@@ -1,4 +1,4 @@
-use Rattle.std.proofs.Common.{◌≡◌, ◌+◌, length, ap, sym, ◌∙◌, arith, rules}
+use Rattle.std.proofs.Common.{◌≡◌, ◌+◌, length, ap, ◌∙◌, arith, rules}
 use Rattle.model_specs.specs.RecordRules.{IsBounded}
 use Rattle.model_specs.specs.MonthNumbers.{bernstein_numerators}
 use Rattle.curve_pieces.proofs.Numerators.{numerators_are}

@@ -20,7 +20,8 @@ place-requires-clause-list c =
 pub returns-in-Some : goal.returns-in-Some
 returns-in-Some c =
     let tree = table_view c.args.tree.now in
-    first_of_lists_of-at (length (transition_items tree)) (length (sojourn_items tree)) (sojourn_rule_10 tree) c.loop-s.s
+    first_of_lists_of-at (length (transition_items tree)) (length (sojourn_items tree)) (sojourn_rule_10 tree)
+    c.loop-s.s
     c.in-Some.i c.place.result (omega (arith, c.place.ensures, c.transitions-transitions.ensures.count))
     (omega (arith, c.sojourns-count.ensures.count)) c.loop-s.invariant
     (sym c.sojourn_break.ensures.value ∙ c.in-Some.is)

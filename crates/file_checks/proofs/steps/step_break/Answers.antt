@@ -1,18 +1,18 @@
-use Rattle.std.proofs.Common.{◌≡◌, ℕ, ◌<◌, codes, map, length, true, below_more, sym, ◌∙◌, arith}
-use Rattle.std.proofs.lemmas.Bool.{and_parts}
+use Rattle.std.proofs.Common.{map, length, true, below_more, sym, ◌∙◌, arith}
 use Rattle.std.proofs.lemmas.List.{length-map}
 use Rattle.toml.specs.View.{view, table_view}
-use Rattle.product_file.specs.Members.{whole_of, item_at}
-use Rattle.product_file.specs.CurveRules.{most_coefficients, is_piece, is_in_order}
 use Rattle.file_checks.specs.Lists.{is_good_step}
 use Rattle.file_checks.proofs.Checks.{first_of_some-at, first_of_some-none, some_from_test}
-use Rattle.file_checks.proofs.InOrder.{few_in_order, term-le}
 use Rattle.file_checks.proofs.StepLemmas.{few_steps}
 use Rattle.file_checks.proofs.steps.step_break.Goals as goal
 
 pub overflow_cast-result : goal.overflow_cast-result
 overflow_cast-result c =
-    omega (arith, few_steps (table_view c.args.tree.now) (map view c.args.steps.now) c.loop-i.i c.requires c.loop-i.invariant)
+    omega (
+      arith,
+      few_steps (table_view c.args.tree.now) (map view c.args.steps.now) c.loop-i.i c.requires
+          c.loop-i.invariant,
+    )
 
 pub returns-then-not-is_good_step-clause-small : goal.returns-then-not-is_good_step-clause-small
 returns-then-not-is_good_step-clause-small c =

@@ -11,7 +11,11 @@ use Rattle.file_checks.proofs.steps.sums_break.Goals as goal
 
 pub place-requires-clause-list : goal.place-requires-clause-list
 place-requires-clause-list c =
-    omega (arith, transitions-le (table_view c.args.tree.now) c.requires.names c.requires.transitions, c.transitions-transitions.ensures.count)
+    omega (
+      arith,
+      transitions-le (table_view c.args.tree.now) c.requires.names c.requires.transitions,
+      c.transitions-transitions.ensures.count,
+    )
 
 pub returns-in-Some : goal.returns-in-Some
 returns-in-Some c =

@@ -3,8 +3,9 @@ use Rattle.toml.specs.Data.{Members}
 use Rattle.toml.specs.View.{table_view}
 use Rattle.model_specs.specs.ValuationRules.{first_given}
 use Rattle.product_file.specs.Reads.{broken_in_tree}
-use Rattle.product_model.specs.declared.breaks.RuleBreak.{RuleBreak}
-use Rattle.file_checks.specs.Broken.{break_of, head_breaks, list_breaks, ObeysHead, ObeysLists, ObeysRules}
+use Rattle.rule_breaks.specs.declared.breaks.RuleBreak.{RuleBreak}
+use Rattle.rule_breaks.specs.Breaks.{break_of}
+use Rattle.file_checks.specs.Broken.{head_breaks, list_breaks, ObeysHead, ObeysLists, ObeysRules}
 use Rattle.file_checks.proofs.Given.{given_first, given_second, IfOk-follows}
 use Rattle.file_checks.proofs.verdict.first_break.Goals as goal
 
@@ -29,6 +30,7 @@ returns-in-None-clause-none c =
     IfOk-follows c.list_break.result (λ (b : Option RuleBreak). IfNone b (ObeysLists tree))
     (λ (b : Option RuleBreak). IfNone b (ObeysRules tree)) (λ b lists. both b tree head lists) c.list_break.ensures.none
   where
-    both : (b : Option RuleBreak) (tree : Members) → ObeysHead tree → IfNone b (ObeysLists tree) → IfNone b (ObeysRules tree)
+    both : (b : Option RuleBreak) (tree : Members) → ObeysHead tree → IfNone b (ObeysLists tree)
+        → IfNone b (ObeysRules tree)
     both None tree head lists = record { head = head; lists = lists }
     both (Some x) tree head lists = lists

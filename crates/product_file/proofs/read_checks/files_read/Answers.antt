@@ -16,7 +16,7 @@ returns-clause-states c = record { twice = refl; start = refl }
 
 pub returns-clause-curves : goal.returns-clause-curves
 unfolding toml_on_literals
-returns-clause-curves c = record { itself = refl; rule_8_first = refl; too_large = refl }
+returns-clause-curves c = record { itself = refl; at_the_term = refl; rule_8_first = refl; too_large = refl }
 
 pub returns-clause-payments : goal.returns-clause-payments
 unfolding toml_on_literals

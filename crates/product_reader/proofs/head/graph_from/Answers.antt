@@ -9,7 +9,8 @@ use Rattle.product_reader.proofs.head.graph_from.Goals as goal
 pub new-requires : goal.new-requires
 new-requires c =
     let p = product_of (table_view c.args.tree.now) in
-    subst IsGraph (sym (graph_by_pairs (table_view c.args.tree.now) _ _ c.in_ok-names_of.ensures c.in_ok-pairs_of.ensures))
+    subst IsGraph (sym (graph_by_pairs (table_view c.args.tree.now) _ _ c.in_ok-names_of.ensures
+    c.in_ok-pairs_of.ensures))
     (graph_is_good p c.requires)
 
 pub returns : goal.returns

@@ -8,4 +8,5 @@ use Rattle.product_reader.proofs.head.names_of.Given as goal
 
 abbrev pub invariant-loop-i : goal.invariant-loop-i
 invariant-loop-i l =
-    texts_of l.names.items ≡ map (λ d. unwrap_or (as_str d) []) (take l.i (items_of (codes "states") (table_view l.tree)))
+    texts_of l.names.items ≡ map (λ d. unwrap_or (as_str d) [])
+    (take l.i (items_of (codes "states") (table_view l.tree)))

@@ -13,7 +13,8 @@ pub new-requires : goal.new-requires
 new-requires c =
     let fits : SFits w64 c.denominator_from-den.result = search rules in
     let den = ap natural_part (to_z-of_z w64 c.denominator_from-den.result fits) ∙ c.denominator_from-den.ensures in
-    subst FitTogether (sym (parts_by_one (table_view c.args.tree.now) _ _ _ _ _ _ _ _ c.in_ok-name.ensures c.in_ok-graph.ensures
+    subst FitTogether (sym (parts_by_one (table_view c.args.tree.now) _ _ _ _ _ _ _ _ c.in_ok-name.ensures
+    c.in_ok-graph.ensures
     c.start_from-start.ensures c.months_from-months.ensures den c.in_ok-interest.ensures c.in_ok-rates.ensures
     c.in_ok-plan.ensures))
     (parts_fit (product_of (table_view c.args.tree.now)) c.requires)

@@ -1,6 +1,6 @@
 use Rattle.std.proofs.Common.{ap, sym, ◌∙◌}
 use Rattle.std.specs.Prelude.{Some}
-use Rattle.rate_bounds.specs.Breaks.{break_of}
+use Rattle.rule_breaks.specs.Breaks.{break_of}
 use Rattle.rate_bounds.proofs.FirstBroken.{months_obey, broken_at_the_end, nothing_is_broken}
 use Rattle.rate_bounds.proofs.admission.ledgers_by_rule_18.Goals as goal
 

@@ -1,6 +1,6 @@
 use Rattle.std.proofs.Common.{ap, ◌∙◌}
 use Rattle.std.specs.Prelude.{Some}
-use Rattle.rate_bounds.specs.Breaks.{break_of}
+use Rattle.rule_breaks.specs.Breaks.{break_of}
 use Rattle.rate_bounds.proofs.FirstBroken.{broken_in_a_month}
 use Rattle.rate_bounds.proofs.admission.ledgers_by_rules.Goals as goal
 

@@ -29,8 +29,11 @@ returns-in_default-clause-complete g c own cause told same calm =
 pub returns-in-Err-Fetch-clause-written : goal.returns-in-Err-Fetch-clause-written
 returns-in-Err-Fetch-clause-written g c =
     let file = c.in-Err-Fetch.ensures.not_fetched (ap (λ e. Err e) c.in-Err-Fetch.field-0-is) in
-    inl (inl (c.of.ensures.end, file.0, (request_of c.in-Some.command, c.in-Some.ensures.some, file.1)),
-    c.of.ensures.report, Keeps-refl (g.K.Sink.written c.args.sink.now))
+    inl (
+      inl (c.of.ensures.end, file.0, (request_of c.in-Some.command, c.in-Some.ensures.some, file.1)),
+      c.of.ensures.report,
+      Keeps-refl (g.K.Sink.written c.args.sink.now),
+    )
 
 pub returns-in-Ok-text-clause-causes : goal.returns-in-Ok-text-clause-causes
 returns-in-Ok-text-clause-causes g c own sound =

@@ -1,7 +1,0 @@
-use Rattle.std.proofs.Common.{sym, map}
-use Rattle.std.proofs.lemmas.List.{take-map}
-use Rattle.toml.specs.View.{view}
-use Rattle.file_checks.proofs.table.items_before.Goals as goal
-
-pub returns-clause-items : goal.returns-clause-items
-returns-clause-items c = sym (take-map view c.args.i c.args.items.now)
