@@ -88,10 +88,7 @@ pub fn transition_keys() -> [Key; 4]
 pub fn piece_keys(most: usize) -> [Key; 2]
     ensures { keys_of result ≡ file.piece_keys most }
 {
-    [
-        needed("from", Kind::Whole),
-        needed("c", Kind::Wholes(most)),
-    ]
+    [needed("from", Kind::Whole), needed("c", Kind::Wholes(most))]
 }
 
 /// The keys of a step in format 1.

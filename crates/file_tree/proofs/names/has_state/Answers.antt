@@ -11,6 +11,6 @@ pub returns : goal.returns
 returns c =
     let tree = table_view c.args.tree.now in
     any_from_yields_List (λ (v : Value). state_index tree c.args.key.now (view v) == c.args.index) _ _ c.any.result
-        c.any.ensures.ran
+    c.any.ensures.ran
     (YieldsList-from_slice c.args.values.now cc) (λ x b q k. search (rules, tests))
     ∙ list_any-map (λ d. state_index tree c.args.key.now d == c.args.index) view c.args.values.now

@@ -11,7 +11,7 @@ use Rattle.file_tree.proofs.names.state_of.Goals as goal
 pub returns : goal.returns
 returns c =
     position_from_yields_List (λ (v : Value). bytes_eq c.args.name.now (text_in (view v))) _ _ c.position.result
-        c.position.ensures.ran
+    c.position.ensures.ran
     (YieldsList-from_slice c.states.result.now cc) (λ x b q k. search (rules, tests))
     ∙ position-map (λ d. bytes_eq c.args.name.now (text_in d)) view c.states.result.now
     ∙ position-map (bytes_eq c.args.name.now) text_in (map view c.states.result.now)

@@ -11,7 +11,7 @@ pub returns : goal.returns
 returns c =
     let tree = table_view c.args.tree.now in
     any_from_yields_List (λ (v : Value). is_same_pair c.args.pair (pair_of tree (view v))) _ _ c.any.result
-        c.any.ensures.ran
+    c.any.ensures.ran
     (YieldsList-from_slice c.args.values.now cc) (λ x b q k. search (rules, tests))
     ∙ list_any-map (λ d. is_same_pair c.args.pair (pair_of tree d)) view c.args.values.now
     ∙ list_any-map (is_same_pair c.args.pair) (pair_of tree) (map view c.args.values.now)
