@@ -6,3 +6,5 @@ pub mod SweepSteps
 pub mod StateValues
 pub mod KeptRuns
 pub mod Enclosed
+pub mod SweptTerms
+pub mod WrittenDates

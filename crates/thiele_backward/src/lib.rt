@@ -2,6 +2,10 @@
 #![tactic(auto)]
 
 mod month;
+mod reserve_table;
 mod sweep;
+mod valuation;
 
+pub use reserve_table::reserves;
 pub use sweep::{MonthRow, Sweep};
+pub use valuation::value;

@@ -1,0 +1,15 @@
+use Rattle.std.proofs.Common.{◌≡◌, ℕ, ◌+◌, ◌*◌, ◌<◌, length}
+use Rattle.frac_laws.specs.Ledger.{tolerance_first}
+use Rattle.fixed_interval.specs.Tables.{AreEndsFor}
+use Rattle.model_specs.specs.Payments.{payment_plan}
+use Rattle.model_specs.specs.Ledgers.{radius, scale}
+use Rattle.model_specs.specs.Runs.{reserve}
+use Rattle.thiele_backward.specs.Dates.{IsReserveAt, KeepsRowsFrom, ends_of}
+use Rattle.thiele_backward.proofs.reserve_table.write_date.Given as goal
+
+abbrev pub invariant-loop-state : goal.invariant-loop-state
+invariant-loop-state l = record {
+  written : (state : ℕ) → state < l.state
+      → IsReserveAt l.sweep.product l.sweep.degree l.sweep.months_left state (ends_of l.cells (l.row * l.states + state));
+  kept : KeepsRowsFrom (l.row + 1) l.states l.initial.cells l.cells;
+}

@@ -1,0 +1,44 @@
+use Rattle.std.proofs.Common.{◌≡◌, ℕ, ◌+◌, ◌<◌, max, ap, sym, subst, ◌∙◌, refl, arith}
+use Rattle.named_numbers.specs.Numbers.{least_degree}
+use Rattle.thiele_backward.specs.Sweeps.{BackwardSweep, at_term, month_earlier}
+use Rattle.thiele_backward.proofs.SweptTerms.{IsSwept, swept_none, swept_more, valued_for}
+use Rattle.thiele_backward.proofs.valuation.value.Goals as goal
+
+pub loop-month-init : goal.loop-month-init
+loop-month-init g c = record {
+  swept = subst (λ s. IsSwept c.args.adm.now c.args.which 0 least_degree s) (sym c.in_ok-sweep.ensures)
+      (swept_none c.args.adm.now c.args.which);
+  count = omega arith;
+}
+
+pub loop-month-preserved : goal.loop-month-preserved
+loop-month-preserved g c =
+    let swept = c.loop-month.invariant.swept in
+    let term : c.months-month-end.result ≡ c.args.adm.now.months =
+    c.months-month-end.ensures.value ∙ ap (λ p. p.months) c.product.ensures.product in
+    let left : 0 < c.loop-month.sweep.months_left = omega (arith, swept.left, c.loop-month-test.true, term) in
+    let row = c.month_back-row.result in
+    let more = swept_more c.args.adm.now c.args.which c.loop-month._month c.loop-month.degree row.degree
+    c.loop-month.sweep swept left c.month_back-row.ensures.least c.month_back-row.ensures.highest
+    c.month_back-row.ensures.constant in
+    record {
+      swept = subst (λ s. IsSwept c.args.adm.now c.args.which (c.loop-month._month + 1) c.max-degree.result s)
+          (sym c.month_back-row.ensures.earlier)
+          (subst (λ d. IsSwept c.args.adm.now c.args.which (c.loop-month._month + 1) d
+          (month_earlier c.loop-month.sweep row.degree)) (sym c.max-degree.ensures) more);
+      count = omega (arith, c.month_back-row.ensures.count, c.loop-month.invariant.count);
+    }
+
+pub returns-clause-value : goal.returns-clause-value
+returns-clause-value g c =
+    let term : c.months-month-end.result ≡ c.args.adm.now.months =
+    c.months-month-end.ensures.value ∙ ap (λ p. p.months) c.product.ensures.product in
+    let done : c.loop-month._month ≡ c.args.adm.now.months =
+    omega (arith, c.loop-month-test.false, c.loop-month.auto, term) in
+    let swept = subst (λ n. IsSwept c.args.adm.now c.args.which n c.loop-month.degree c.loop-month.sweep) done
+    c.loop-month.invariant.swept in
+    let start : c.start.result ≡ c.args.adm.now.start =
+    c.start.ensures.value ∙ ap (λ p. p.start) c.product-2.ensures.product in
+    let begun = swept.begun ∙ ap at_term (sym swept.product_is) in
+    valued_for c.args.adm.now c.args.which c.loop-month.degree _ c.start.result c.loop-month.sweep _ swept refl start
+    c.enclosure_before.ensures.width c.enclosure_before.ensures.small (c.enclosure_before.ensures.reserves begun)

@@ -1,0 +1,83 @@
+//! Tables of reserves, by date and state.
+
+ghost use Rattle.std.specs.Prelude.{◌≡◌, ℕ, ◌+◌, ◌*◌, ◌/◌, ◌^◌, ◌<◌, ◌≤◌, IfOk, OnErr, length};
+ghost use Rattle.named_numbers.specs.Numbers.{cells_of_month, least_degree};
+ghost use Rattle.model_specs.specs.Payments.{payment_plan};
+ghost use Rattle.thiele_backward.specs.Results.{AreReserves, AreConstantMonths};
+ghost use Rattle.thiele_backward.specs.Dates.{SweepsReserves, HasDate, KeepsRowsFrom};
+
+use crate::month::LEAST_DEGREE;
+use crate::sweep::Sweep;
+use fixed_interval::{Printed, Table};
+use payment_plan::Which;
+use rate_bounds::Admitted;
+use std::alloc::{AllocError, Global};
+use std::sync::ledger::Ledger;
+use taylor_step::Steps;
+
+// Ends that are not written yet.
+const NOTHING: Printed = Printed { lo: 0, hi: 0 };
+
+// Writes the values at a sweep's date, in the table's row of this number.
+fn write_date(cells: &mut [Printed], row: usize, states: usize, sweep: &Sweep)
+    requires states { states ≡ length sweep.now.product.states }
+    requires room { (row + 1) * states ≤ length cells.old }
+    requires reserves { SweepsReserves sweep.now }
+    ensures written { HasDate sweep.now.product sweep.now.degree sweep.now.months_left row cells.new }
+    ensures kept { KeepsRowsFrom (row + 1) states cells.old cells.new }
+{
+    for state in 0..states {
+        cells[row * states + state] = sweep.enclosure(state).printed();
+    }
+}
+
+// Writes the values at a sweep's date, if the table has it.
+fn keep_date(cells: &mut [Printed], every: u32, states: usize, sweep: &Sweep)
+    requires every { 0 < every }
+    requires states { states ≡ length sweep.now.product.states }
+    requires room { (sweep.now.months_left / every + 1) * states ≤ length cells.old }
+    requires reserves { SweepsReserves sweep.now }
+    ensures written { (row : ℕ) → row * every ≡ sweep.now.months_left
+        → HasDate sweep.now.product sweep.now.degree sweep.now.months_left row cells.new }
+    ensures kept { KeepsRowsFrom (sweep.now.months_left / every + 1) states cells.old cells.new }
+{
+    let date = sweep.months_left();
+    if date % every == 0 {
+        write_date(cells, (date / every) as usize, states, sweep);
+    }
+}
+
+/// The reserves of all states at the dates 0, `every`, 2 `every` and so on, up to the term, each without the lump of
+/// its date. It takes 32 steps a month, and memory for the table and one month before the first step.
+pub fn reserves<L: Ledger>(
+    alloc: Global,
+    adm: &Admitted,
+    every: u32,
+    steps: &mut Steps<L>,
+) -> Result<Table, AllocError>
+    requires every { 0 < every }
+    requires count { steps.old + cells_of_month * adm.now.months < 2 ^ 63 }
+    ensures reserves { IfOk result (AreReserves adm.now every) }
+    ensures constant { AreConstantMonths adm.now (payment_plan adm.now)
+        → IfOk result (λ table. table.degree ≡ least_degree) }
+    ensures count { IfOk result (λ table. steps.new ≡ steps.old + cells_of_month * adm.now.months) }
+    ensures refused { OnErr result (steps.new ≡ steps.old) }
+{
+    let mut sweep = Sweep::prepare(alloc, adm, Which::Benefits)?;
+    let states = adm.product().graph().states();
+    let months = adm.product().months();
+    let mut cells = vec![in alloc; NOTHING; (months / every + 1) as usize * states]?;
+    let mut degree = LEAST_DEGREE;
+    keep_date(&mut cells, every, states, &sweep);
+    for _month in 0..months {
+        let row = sweep.month_back(adm, steps);
+        degree = degree.max(row.degree);
+        keep_date(&mut cells, every, states, &sweep);
+    }
+    Ok(Table {
+        degree,
+        every,
+        states,
+        cells,
+    })
+}

@@ -1,0 +1,42 @@
+//! The value at issue.
+
+ghost use Rattle.std.specs.Prelude.{◌≡◌, ◌+◌, ◌*◌, ◌^◌, ◌<◌, ◌≤◌, IfOk, OnErr};
+ghost use Rattle.named_numbers.specs.Numbers.{cells_of_month, least_degree};
+ghost use Rattle.rate_bounds.specs.MonthPay.{plan_named};
+ghost use Rattle.thiele_backward.specs.Results.{IsValueAtIssue, AreConstantMonths};
+
+use crate::month::LEAST_DEGREE;
+use crate::sweep::Sweep;
+use fixed_interval::Valued;
+use payment_plan::Which;
+use rate_bounds::Admitted;
+use std::alloc::{AllocError, Global};
+use std::sync::ledger::Ledger;
+use taylor_step::Steps;
+
+/// The value of a plan just before issue, in the start state and with the lump of date 0. It takes 32 steps a month,
+/// and memory for one month alone, however long the term.
+pub fn value<L: Ledger>(
+    alloc: Global,
+    adm: &Admitted,
+    which: Which,
+    steps: &mut Steps<L>,
+) -> Result<Valued, AllocError>
+    requires { steps.old + cells_of_month * adm.now.months < 2 ^ 63 }
+    ensures value { IfOk result (IsValueAtIssue adm.now (plan_named which adm.now)) }
+    ensures constant { AreConstantMonths adm.now (plan_named which adm.now)
+        → IfOk result (λ valued. valued.degree ≡ least_degree) }
+    ensures count { IfOk result (λ valued. steps.new ≡ steps.old + cells_of_month * adm.now.months) }
+    ensures refused { OnErr result (steps.new ≡ steps.old) }
+{
+    let mut sweep = Sweep::prepare(alloc, adm, which)?;
+    let mut degree = LEAST_DEGREE;
+    for _month in 0..adm.product().months() {
+        let row = sweep.month_back(adm, steps);
+        degree = degree.max(row.degree);
+    }
+    Ok(Valued {
+        degree,
+        interval: sweep.enclosure_before(adm, adm.product().start()),
+    })
+}
