@@ -76,7 +76,7 @@ fn keys_hold_by_kind(rt: HostRuntime) -> Result<(), Fail> {
     assert!(rt; is_table_of(piece, &piece_keys(2)) && !is_table_of(piece, &piece_keys(1)));
     let step = sum_of(transition).first().ok_or("no step")?;
     assert!(rt; is_table_of(step, &constant_step_keys()) && !is_table_of(step, &piece_keys(4)));
-    let name = item(states(&tree), 0);
+    let name = states(&tree).first().ok_or("no state")?;
     assert!(rt; !is_table_of(name, &sojourn_keys()));
     let price = Key {
         name: "price",
