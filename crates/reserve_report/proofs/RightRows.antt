@@ -72,8 +72,7 @@ ends_are : (t : Table) (place : ℕ) (about : What) (says : Printed → Type 0)
     → says (ends_at t (place / t.states) (place % t.states))
     → says (record { lo = (row_at about t place).lo; hi = (row_at about t place).hi })
 ends_are t place about says h =
-    subst (λ at. says (slice_index_or t.cells.items at (record { lo = pos 0; hi = pos 0 })))
-    (place_again place t.states) h
+    subst (λ at. says (slice_index_or t.cells.items at (record { lo = pos 0; hi = pos 0 }))) (place_again place t.states) h
 
 reserve_is_right : (p : Product) (degree : ℕ) (row : Row) → row.what ≡ what.Reserve
     → AreEndsFor degree (λ n. reserve p (payment_plan p) n row.month row.state)
