@@ -176,7 +176,6 @@ table_for product every degree t some answered is_degree is_every is_states h = 
         let whole : k * step ≤ term / step * step = mul-le-mul few (omega arith) in
         omega (arith, div-add-mod term step, whole)
 
-
 -- there is room for the row of a date
 pub room_for : (date term every states count long : ℕ) → 0 < every → states ≡ count → date ≤ term
     → long ≡ (term / every + 1) * count → (date / every + 1) * states ≤ long

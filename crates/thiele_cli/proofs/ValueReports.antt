@@ -1,10 +1,12 @@
 -- The report of a value is right where its row and its numbers are the value's.
-use Rattle.std.proofs.Common.{◌≡◌, ◌≤◌, ℤ, [], ◌∷◌, inr, ap, sym, subst, ◌∙◌, refl, arith}
+use Rattle.std.proofs.Common.{◌≡◌, ◌≤◌, ℤ, [], ◌∷◌, inl, inr, ap, sym, subst, ◌∙◌, refl, arith}
 use Rattle.std.specs.Prelude.{pos, ◌+ℤ◌, ◌≤ℤ◌}
 use Rattle.model_specs.specs.Product.{Product}
 use Rattle.model_specs.specs.Ledgers.{scale}
 use Rattle.model_specs.specs.Rows.{Holds, tolerance}
+use Rattle.plain_value.specs.declared.plain.Plain.{Plain}
 use Rattle.plain_value.specs.declared.valuation.Valued.{Valued}
+use Rattle.plain_value.specs.PlainNumbers.{ArePlainNumbers}
 use Rattle.plain_value.specs.Values.{IsValueOf}
 use Rattle.reserve_report.specs.declared.report.Kind.TheVariants as kind
 use Rattle.reserve_report.specs.declared.report.What.TheVariants as what
@@ -13,6 +15,7 @@ use Rattle.reserve_report.specs.declared.report.Report.{Report}
 use Rattle.reserve_report.specs.Reports.{IsValueReport, row_of}
 use Rattle.model_specs.specs.ValuationRules.{IsPlain}
 use Rattle.thiele_cli.specs.declared.answer.Answer.TheVariants.{Refused}
+use Rattle.thiele_cli.specs.declared.answer.Answer.TheVariants as answer
 use Rattle.thiele_cli.specs.declared.question.Question.TheVariants.{ValueAtIssue}
 use Rattle.thiele_cli.specs.declared.refusal.Refusal.TheVariants.{Unbuilt}
 use Rattle.thiele_cli.specs.Replies.{AnswersQuestion}
@@ -45,3 +48,12 @@ pub other_products_are_refused : (read product : Product) → read ≡ product
     → ((force rate : ℤ) → ¬ IsPlain read force rate) → AnswersQuestion ValueAtIssue product (Refused Unbuilt)
 other_products_are_refused read product same none =
     inr ((λ plain. none plain.0 plain.1 (subst (λ x. IsPlain x plain.0 plain.1) (sym same) plain.2)), refl)
+
+-- a plain product is reported
+pub plain_products_are_reported : (read valued product : Product) (plain : Plain) (report : Report)
+    → read ≡ product → valued ≡ product → ArePlainNumbers read plain → IsValueReport valued report
+    → AnswersQuestion ValueAtIssue product (answer.Report product report)
+plain_products_are_reported read valued product plain report same too numbers right = inl (
+  (plain.force, plain.rate, subst (λ x. IsPlain x plain.force plain.rate) same numbers.is_plain),
+  (report, refl, subst (λ x. IsValueReport x report) too right),
+)
