@@ -109,6 +109,20 @@ for wanted in "$top"/tests/files/examples/*.txt; do
   try "the example $name" 0 "$(cat "$wanted")"$'\n' check "$top/examples/$name.toml"
 done
 
+# with the least memory with which the program starts, there is none for its words; below that the system refuses it
+status=127
+for limit in $(seq 2000 20 8000); do
+  (ulimit -v "$limit"; exec "$program" value "$top/examples/flat.toml") >"$work/output" 2>"$work/errors"
+  status=$?
+  [ "$status" -eq 127 ] || break
+done
+if [ "$status" -eq 9 ] && [ ! -s "$work/output" ] && [ ! -s "$work/errors" ]; then
+  passed=$((passed + 1))
+else
+  failed=$((failed + 1))
+  echo "FAILED the least memory: wanted status 9, found $status"
+fi
+
 # a full device takes nothing
 "$program" value "$top/examples/flat.toml" >/dev/full 2>"$work/errors"
 status=$?
