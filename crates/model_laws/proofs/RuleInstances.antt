@@ -1,14 +1,12 @@
--- The rules hold of a lump, and an annuity is plain.
+-- The rules hold of a lump.
 use Rattle.std.specs.Prelude.{◌≡◌, ℕ, zero, suc, ◌<◌, ◌≤◌, ◌^◌, pos, unsigned_abs, All, [], ◌∷◌, length, refl}
 use Rattle.std.specs.Prelude.{slice_index, codes}
 use Rattle.std.specs.List.{AllPass}
-use Rattle.std.proofs.Common.{ap, arith, lit≤, lit<}
-use Rattle.std.proofs.lemmas.Int.{ints}
+use Rattle.std.proofs.Common.{arith, lit≤, lit<}
 use Rattle.model_specs.specs.Names.{IsGoodName, is_name_byte}
 use Rattle.model_specs.specs.RecordRules.{AreDistinct, IsBounded, IsBoundedCurve}
 use Rattle.model_laws.specs.Examples.{constant_curve}
-use Rattle.model_laws.specs.RuleInstances.{LumpIsAdmissible, AnnuityIsPlain}
-use Rattle.model_laws.proofs.FlatRuns.{piece-constant, step-constant}
+use Rattle.model_laws.specs.RuleInstances.{LumpIsAdmissible}
 
 -- facts of lists of one member, and of none
 only : {A : Type 0} (P : A → Type 0) (x : A) → P x → All P (x ∷ [])
@@ -125,13 +123,3 @@ lump_is_admissible = record {
     bounded : IsBoundedCurve 12 (constant_curve (pos 1))
     bounded zero b = twentieth-bounded
     bounded (suc k) b = absurd (omega arith)
-
-pub annuity_is_plain : AnnuityIsPlain
-annuity_is_plain = record {
-  one_state = refl;
-  no_lump = refl;
-  interest = λ m b. ap (λ piece. piece.c) (piece-constant (pos 0) m);
-  force_from_0 = omega (arith, ints);
-  force_to_a_quarter = omega (arith, ints);
-  sojourn = λ m b. ap (λ step. step.c) (step-constant 12 m (pos 384) []);
-}

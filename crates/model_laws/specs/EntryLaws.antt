@@ -40,9 +40,11 @@ pub record KeepsStates (cell : CellCurves) : Type 0 where
   pub coupling : (m : ℕ) → length (matrix_at (norberg_pair cell).coupling m) ≤ cell.states
   pub kolmogorov : KeepsDimension (kolmogorov_system cell)
 
+-- the systems of each cell have these numbers
 abbrev pub SystemsHaveEntries : Type 0
 SystemsHaveEntries = (cell : CellCurves) → HasEntries cell
 
+-- and their lists have these lengths
 abbrev pub SystemsKeepStates : Type 0
 SystemsKeepStates = (cell : CellCurves) → KeepsStates cell
 

@@ -46,16 +46,18 @@ SolvesKolmogorov cell p = (k j : ℕ) → j < cell.states → whole (pos (suc k)
     sum_to (suc k) (λ m. sum_to cell.states (λ i. intensity_at cell i j m *ℚ p i (k - m))
     -ℚ leaving_at cell j m *ℚ p j (k - m))
 
--- the coefficients of the three systems solve these equations
+-- the coefficients of Thiele's system solve Thiele's equation
 abbrev pub ThieleSystemSolves : Type 0
 ThieleSystemSolves = (cell : CellCurves) (start : Vector) → IsQuintic cell →
     SolvesThiele cell (λ i k. number_at (coefficient (thiele_system cell) start k) i)
 
+-- those of both halves of Norberg's pair solve Norberg's equation
 abbrev pub NorbergPairSolves : Type 0
 NorbergPairSolves = (cell : CellCurves) (start second : Vector) → IsQuintic cell →
     SolvesNorberg cell (λ i k. number_at (coefficient (thiele_system cell) start k) i)
     (λ i k. number_at (second_coefficient (norberg_pair cell) start second k) i)
 
+-- those of Kolmogorov's system solve Kolmogorov's equation
 abbrev pub KolmogorovSystemSolves : Type 0
 KolmogorovSystemSolves = (cell : CellCurves) (start : Vector) → IsQuintic cell →
     SolvesKolmogorov cell (λ j k. number_at (coefficient (kolmogorov_system cell) start k) j)

@@ -24,6 +24,7 @@ pub record LedgersAre (product : Product) (bound g w second : ℕ) : Type 0 wher
 abbrev pub FlatLedgers : Type 0
 FlatLedgers = LedgersAre flat_annuity 786432 10 393216 687360
 
+-- what a cell of its last month adds to the bound
 abbrev pub FlatPay : Type 0
 FlatPay = pay flat_annuity (payment_plan flat_annuity) 11 ≡ 2048
 
@@ -31,15 +32,17 @@ FlatPay = pay flat_annuity (payment_plan flat_annuity) 11 ≡ 2048
 abbrev pub DiscountedLedgers : Type 0
 DiscountedLedgers = LedgersAre discounted_lump 10240384 14 393599 393604
 
+-- the growth that its first month counts, in 1/2^40
 abbrev pub DiscountedGrowth : Type 0
 DiscountedGrowth = (phi40 discounted_lump 0 ≡ 429496730) × (kappa40 discounted_lump 0 ≡ 94372)
 
--- a century: of a lump at minus a fiftieth, of the largest annuity, and of a ring of eight states
+-- a century: of a lump at minus a fiftieth, and of the largest annuity
 abbrev pub CenturyScales : Type 0
 CenturyScales = (scale century_lump (payment_plan century_lump) ≡ 16)
     × (bound1024 largest_annuity (payment_plan largest_annuity) ≡ 204800000000025600)
     × (scale largest_annuity (payment_plan largest_annuity) ≡ 48)
 
+-- a century of a ring of eight states
 abbrev pub RingScale : Type 0
 RingScale = let ring = ring_of_eight 1200 (pos 2000000) in scale ring (payment_plan ring) ≡ 21
 
@@ -60,6 +63,7 @@ pub record ChecksAs (product : Product) (bound g value occupancy second variance
   pub pattern_scale_is : scale product (pattern_plan product) ≡ pattern_g
   pub pattern_is : tolerance product (row_of Pattern 0) ≡ pattern
 
+-- those of the product at the limits
 abbrev pub LimitsCheck : Type 0
 LimitsCheck = ChecksAs at_the_limits 9419890484737373 44 1580102 3 36978494013442 92590468759554 0 3
 
@@ -88,9 +92,11 @@ LargestRates = (first_broken (ring_of_eight 2 (pos 2000000)) ≡ None)
 abbrev pub LargestExchange : Type 0
 LargestExchange = first_broken (exchange (pos 396094500958)) ≡ None
 
+-- an amount of one more is refused
 abbrev pub TooLargeExchange : Type 0
 TooLargeExchange = first_broken (exchange (pos 396094500959)) ≡ Some (record { rule = 18; place = 0 })
 
+-- and so is the largest amount that a file may have
 abbrev pub FarTooLargeExchange : Type 0
 FarTooLargeExchange = first_broken (exchange (pos 1000000000000)) ≡ Some (record { rule = 18; place = 0 })
 

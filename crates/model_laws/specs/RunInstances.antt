@@ -37,10 +37,11 @@ small_policy = record {
   pattern = no_pattern;
 }
 
--- its last cell, backward, and its first one, forward
+-- its last cell, backward
 abbrev pub last_cell : CellCurves
 last_cell = cell_curves (cells_of_32 Backward) small_policy (payment_plan small_policy) 0 31
 
+-- its first cell, forward
 abbrev pub first_cell : CellCurves
 first_cell = cell_curves (cells_of_32 Forward) small_policy (payment_plan small_policy) 0 0
 
@@ -55,14 +56,16 @@ IntensityInCells = let zero = over (pos 0) 1 in
 abbrev pub HasTwo : Vector → Fraction → Fraction → Type 0
 HasTwo v x y = (number_at v 0 ≡ x) × (number_at v 1 ≡ y)
 
+-- the vector (0, 0)
 abbrev pub two_zeros : Vector
 two_zeros = whole (pos 0) ∷ whole (pos 0) ∷ []
 
--- the reserves at the start of the last cell, by degree 2, and the second moments
+-- the reserves at the start of the last cell, by degree 2
 abbrev pub ReserveOfLastCell : Type 0
 ReserveOfLastCell =
     HasTwo (taylor_value (thiele_system last_cell) two_zeros 2) (over (pos 6625061) 14745600) (whole (pos 0))
 
+-- the second moments at the start of the last cell, by degree 2
 abbrev pub MomentOfLastCell : Type 0
 MomentOfLastCell = HasTwo (second_taylor_value (norberg_pair last_cell) two_zeros two_zeros 2)
     (over (pos 968197097) 7372800) (whole (pos 0))

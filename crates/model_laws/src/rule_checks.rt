@@ -1,9 +1,8 @@
 //! Products that meet the rules.
 
-ghost use Rattle.model_laws.specs.RuleInstances.{LumpIsAdmissible, AnnuityIsPlain};
+ghost use Rattle.model_laws.specs.RuleInstances.{LumpIsAdmissible};
 
-/// A lump after a year can be valued, and a year's annuity without interest is plain.
+/// A lump after a year can be valued.
 pub fn rules_can_be_met()
-    ensures admissible { LumpIsAdmissible }
-    ensures plain { AnnuityIsPlain }
+    ensures { LumpIsAdmissible }
 {}

@@ -31,10 +31,11 @@ pub record Grid : Type 0 where
   pub cells : ℕ
   pub direction : Direction
 
--- the grid of the runs: 32 cells in a month; and that of whole months
+-- the grid of the runs: 32 cells in a month
 abbrev pub cells_of_32 : Direction → Grid
 cells_of_32 direction = record { cells = cells_of_month; direction = direction }
 
+-- the grid of whole months: each month is one cell
 abbrev pub whole_months : Direction → Grid
 whole_months direction = record { cells = 1; direction = direction }
 

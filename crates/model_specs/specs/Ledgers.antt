@@ -39,7 +39,8 @@ scale product plan = scale_of_bound (bound1024 product plan)
 abbrev pub radius_before_term : Product → ℕ → ℕ
 radius_before_term product zero = 0
 radius_before_term product (suc months) =
-    grow_cells (kappa40 product (product.months - suc months)) cell_rounding (radius_before_term product months) cells_of_month
+    grow_cells (kappa40 product (product.months - suc months)) cell_rounding (radius_before_term product months)
+    cells_of_month
 
 -- W: the backward radius at a date
 abbrev pub radius : Product → ℕ → ℕ
@@ -48,7 +49,8 @@ radius product date = radius_before_term product (product.months - date)
 -- Wf: the forward radius at a date
 abbrev pub radius_forward : Product → ℕ → ℕ
 radius_forward product zero = 0
-radius_forward product (suc month) = grow_cells (kappa40 product month) cell_rounding (radius_forward product month) cells_of_month
+radius_forward product (suc month) =
+    grow_cells (kappa40 product month) cell_rounding (radius_forward product month) cells_of_month
 
 -- the second radius after some cells of one month, whose pay is scaled by G, from the radii before them
 abbrev pub second_grow_cells : ℕ → ℕ → ℕ → ℕ → ℕ → ℕ → ℕ

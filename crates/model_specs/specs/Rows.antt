@@ -83,5 +83,6 @@ tolerance_of product row Benefits = tolerance_first (radius product 0) (scale pr
 tolerance_of product row Pattern = tolerance_first (radius product 0) (scale product (pattern_plan product))
 tolerance_of product row Premium = natural_part (row.hi -ℤ row.lo)
 
+-- the tolerance of a row, by its own kind
 abbrev pub tolerance : Product → Row → ℕ
 tolerance product row = tolerance_of product row row.kind

@@ -52,10 +52,11 @@ abbrev pub value_before_issue : Product → Plan → ℕ → Fraction
 value_before_issue product plan n =
     reserve product plan n 0 product.start +ℚ whole (lump_at plan 0 product.start)
 
--- B_n and P_n: the value of the benefits and of the premium pattern
+-- B_n: the value of the benefits
 abbrev pub benefits : Product → ℕ → Fraction
 benefits product n = value_before_issue product (payment_plan product) n
 
+-- P_n: the value of the premium pattern
 abbrev pub pattern_value : Product → ℕ → Fraction
 pattern_value product n = value_before_issue product (pattern_plan product) n
 

@@ -9,16 +9,19 @@ use Rattle.cell_laws.specs.Pairs.{CoupledPair}
 use Rattle.model_specs.specs.Whole.{list_of}
 use Rattle.model_specs.specs.Cells.{CellCurves}
 
--- r_m, mu_ij,m, b_i,m and b_ij,m: the coefficients of x^m, 0 past the degree
+-- r_m: the coefficient of x^m of the interest, 0 past the degree
 abbrev pub interest_at : CellCurves → ℕ → Fraction
 interest_at cell m = number_at cell.interest m
 
+-- mu_ij,m: that of the intensity from i to j
 abbrev pub intensity_at : CellCurves → ℕ → ℕ → ℕ → Fraction
 intensity_at cell i j m = number_at (cell.intensity i j) m
 
+-- b_i,m: that of the sojourn rate of i
 abbrev pub sojourn_rate_at : CellCurves → ℕ → ℕ → Fraction
 sojourn_rate_at cell i m = number_at (cell.sojourn i) m
 
+-- b_ij,m: that of the sum paid on a transition from i to j
 abbrev pub sum_paid_at : CellCurves → ℕ → ℕ → ℕ → Fraction
 sum_paid_at cell i j m = number_at (cell.sum i j) m
 
@@ -38,10 +41,11 @@ leaving_at cell i m = sum_to cell.states (λ j. intensity_at cell i j m)
 abbrev pub where_same : ℕ → ℕ → Fraction → Fraction
 where_same i j x = if i == j then x else whole (pos 0)
 
--- the matrix with f i j in row i and column j, and the vector with f i at place i, over the states
+-- the matrix with f i j in row i and column j, over the states
 abbrev pub matrix_of : ℕ → (ℕ → ℕ → Fraction) → Matrix
 matrix_of states f = list_of states (λ i. list_of states (f i))
 
+-- the vector with f i at place i, over the states
 abbrev pub vector_of : ℕ → (ℕ → Fraction) → Vector
 vector_of states f = list_of states f
 

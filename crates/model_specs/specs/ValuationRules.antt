@@ -1,13 +1,12 @@
 -- Rules 15 to 18 of a product, with the least place at which each is broken. This product's own.
-use Rattle.std.specs.Prelude.{◌≡◌, ℕ, ◌*◌, ◌^◌, nat_le, ℤ, pos, neg_ℤ, ◌*ℤ◌, ◌≤ℤ◌, int_le, ◌<◌}
+use Rattle.std.specs.Prelude.{◌≡◌, ℕ, ◌*◌, nat_le, ℤ, pos, neg_ℤ, ◌*ℤ◌, int_le}
 use Rattle.std.specs.Prelude.{Bool, not, ◌&&◌, if◌then◌else◌, Option, Some, None, option_map, find}
-use Rattle.std.specs.Prelude.{List, [], ◌∷◌, length}
+use Rattle.std.specs.Prelude.{List, [], ◌∷◌}
 use Rattle.std.specs.List.{list_all}
 use Rattle.named_numbers.specs.Numbers.{most_bound}
 use Rattle.model_specs.specs.Whole.{places}
-use Rattle.model_specs.specs.Curve.{piece_at}
 use Rattle.model_specs.specs.Product.{Product}
-use Rattle.model_specs.specs.Payments.{payment_plan, sojourn_at}
+use Rattle.model_specs.specs.Payments.{payment_plan}
 use Rattle.model_specs.specs.MonthNumbers.{curve_numerators, month_unit, rho}
 use Rattle.model_specs.specs.Ledgers.{bound1024}
 use Rattle.model_specs.specs.RecordRules.{IsWellFormed}
@@ -63,15 +62,3 @@ first_broken product = first_given (broken_in_months product 15 (obeys_rule_15 p
 pub record IsAdmissible (product : Product) : Type 0 where
   pub well_formed : IsWellFormed product
   pub valuation : first_broken product ≡ None
-
--- a plain product: one state, no lump, the force of interest force / den for the whole term, which is
--- from 0 to a quarter, and a sojourn rate that is the same in all months (0 where there is none)
-pub record IsPlain (product : Product) (force rate : ℤ) : Type 0 where
-  pub one_state : length product.states ≡ 1
-  pub no_lump : product.lumps ≡ []
-  pub interest : (m : ℕ) → m < product.months → (piece_at product.interest m).c
-      ≡ force ∷ pos 0 ∷ pos 0 ∷ pos 0 ∷ pos 0 ∷ pos 0 ∷ []
-  pub force_from_0 : pos 0 ≤ℤ force
-  pub force_to_a_quarter : (pos 4 *ℤ force) ≤ℤ pos product.den
-  pub sojourn : (m : ℕ) → m < product.months → (sojourn_at (payment_plan product) 0 m).c
-      ≡ rate ∷ pos 0 ∷ pos 0 ∷ pos 0 ∷ []

@@ -1,4 +1,0 @@
-pub mod PlainNumbers
-pub mod Steadiness
-pub mod Values
-pub mod YearPlans
