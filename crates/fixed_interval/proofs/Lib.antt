@@ -3,3 +3,4 @@ pub mod Ends
 pub mod Midpoints
 pub mod PrintedEnds
 pub mod TwoFloors
+pub mod WholeEnds

@@ -4,12 +4,12 @@ use Rattle.std.specs.Int.{int_min, int_max}
 use Rattle.frac_laws.specs.Rounding.{floor_of, ceiling_of}
 use Rattle.fixed_interval.specs.declared.interval.Interval.{Interval}
 
--- the least and the greatest product of a number of each, in units of 2^-128: each is one of the four
--- products of ends
+-- the least product of a number of each, in units of 2^-128, which is one of the four products of ends
 abbrev pub least_product : Interval → Interval → ℤ
 least_product a b =
     int_min (int_min (a.lo *ℤ b.lo) (a.lo *ℤ b.hi)) (int_min (a.hi *ℤ b.lo) (a.hi *ℤ b.hi))
 
+-- the greatest one, in units of 2^-128
 abbrev pub greatest_product : Interval → Interval → ℤ
 greatest_product a b =
     int_max (int_max (a.lo *ℤ b.lo) (a.lo *ℤ b.hi)) (int_max (a.hi *ℤ b.lo) (a.hi *ℤ b.hi))

@@ -6,10 +6,12 @@ mod interval;
 mod printed;
 mod products;
 mod tables;
+mod whole;
 
 pub use interval::Interval;
 pub use printed::Printed;
-pub use tables::{Table, Valued};
+pub use tables::{MomentTable, PremiumTable, Table, Valued};
+pub use whole::{whole_ceil, whole_floor};
 
 #[cfg(test)]
 mod tests;

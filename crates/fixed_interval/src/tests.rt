@@ -89,3 +89,29 @@ fn ends_are_printed_in_millionths(rt: HostRuntime) {
         assert_eq!(rt; (found.lo, found.hi), wanted);
     }
 }
+
+#[test]
+fn second_moments_are_printed_whole(rt: HostRuntime) {
+    let most = 1 << 70;
+    let cases = [
+        (of(0, 0).printed_whole(0), (0, 0)),
+        (of(-1, 1).printed_whole(0), (-1, 1)),
+        (of(-1, 1).printed_whole(31), (-1, 1)),
+        (of(-3, 5).printed_whole(32), (-3, 5)),
+        (of(-3, 5).printed_whole(33), (-12, 20)),
+        (
+            of(-ONE - 1, ONE + 1).printed_whole(10),
+            (-1_048_577, 1_048_577),
+        ),
+        (
+            of(1 - most, most).printed_whole(56),
+            (
+                -332_306_998_946_228_968_225_670_290_093_375_488,
+                332_306_998_946_228_968_225_951_765_070_086_144,
+            ),
+        ),
+    ];
+    for (found, wanted) in cases {
+        assert_eq!(rt; (found.lo, found.hi), wanted);
+    }
+}
