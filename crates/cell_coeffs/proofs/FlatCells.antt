@@ -1,5 +1,5 @@
 -- In a month in which nothing varies, nothing but 0 is stored above power 0.
-use Rattle.std.specs.Prelude.{◌≡◌, ℕ, zero, suc, pos, ◌-◌, ◌<◌, ◌&&◌, Bool, true, cond, nat_eq, ℤ, unsigned_abs}
+use Rattle.std.specs.Prelude.{◌≡◌, ℕ, zero, suc, pos, ◌-◌, ◌<◌, true, ℤ}
 use Rattle.std.specs.Prelude.{Option, Some, None, option_map, unwrap_or, IsTrue, List, [], ◌∷◌, ◌++◌, map, length}
 use Rattle.std.specs.List.{list_all}
 use Rattle.std.proofs.Common.{refl, ap, sym, ◌∙◌, arith, inl, inr}
@@ -24,8 +24,9 @@ use Rattle.model_specs.specs.Systems.{first_payment_at, backward_entry}
 use Rattle.model_specs.specs.Stretches.{is_constant, is_constant_month}
 use Rattle.cell_bounds.proofs.TableNorms.{where_same-is, unit_at}
 use Rattle.linear_system.specs.StoredSystem.{StoredSystem, dim_of, stored_number, stored_free}
-use Rattle.linear_system.specs.DegreeLimit.{IsConstant, holds_below, is_empty_at, greatest_power_to}
+use Rattle.linear_system.specs.DegreeLimit.{IsConstant}
 use Rattle.cell_coeffs.specs.StoredRows.{IsStoredRow}
+use Rattle.cell_coeffs.proofs.ConstantSystems.{constant_system}
 use Rattle.cell_coeffs.proofs.FlatCurves.{IsFlat, scaled_flat, amount_flat, curve_flat}
 use Rattle.cell_coeffs.proofs.Links.{found_inside}
 
@@ -148,18 +149,5 @@ module _ (cell : CellCurves) (flat : IsFlatCell cell) where
           | inr beyond ↦ (rows row b).no_more (suc m) beyond
         ]
 
-    holds_all : (n : ℕ) (test : ℕ → Bool) → ((k : ℕ) → k < n → test k ≡ true) → holds_below n test ≡ true
-    holds_all zero test each = refl
-    holds_all (suc n) test each =
-        ap₂ ◌&&◌ (holds_all n test (λ k b. each k (omega (arith, b)))) (each n (omega arith))
-
-    empty : (m : ℕ) → is_empty_at s (suc m) ≡ true
-    empty m = holds_all (dim_of s) _ (λ row b. holds_all (suc (dim_of s)) _ (λ col c.
-        ap (λ z. nat_eq (unsigned_abs z) 0) (number_none row col m (rw dim at b) (rw dim at c))))
-
-    no_power : (n : ℕ) → greatest_power_to s n ≡ 0
-    no_power zero = refl
-    no_power (suc n) = ap (λ t. cond t (greatest_power_to s n) (suc n)) (empty n) ∙ no_power n
-
     pub stored_constant : IsConstant s
-    stored_constant = no_power s.degree
+    stored_constant = constant_system s (λ row col m b c. number_none row col m (rw dim at b) (rw dim at c))

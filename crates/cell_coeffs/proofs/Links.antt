@@ -25,7 +25,7 @@ use Rattle.product_model.specs.Views.{payments_of}
 use Rattle.ledger_laws.proofs.Extremes.{All-list_of}
 use Rattle.product_cells.proofs.FoundTransitions.{found_has}
 use Rattle.cell_coeffs.specs.Near.{IsNear, IsWithinUnit, IsStored}
-use Rattle.cell_coeffs.specs.Rows.{cell_at, AddsNear}
+use Rattle.cell_coeffs.specs.Rows.{cell_at, AddsNear, AddsNearTo}
 use Rattle.cell_coeffs.proofs.Near.{near_add, near_mono}
 
 -- it is one of the product's transitions
@@ -75,19 +75,30 @@ module _ (product : Product) (which : Which) (month cell i j : ℕ) where
       gone x = ring (x ∷ []) (hlevel terms) refl
 
 -- numbers near more are added, or nothing
+pub adds_near_to : (powers more : ℕ) (y : ℕ → Fraction) (old new numbers : List ℤ)
+    → ((m : ℕ) → m < powers → IsNear more (y m) (slice_index_or numbers m (pos 0)))
+    → ((m : ℕ) → m < powers → slice_index_or new m (pos 0)
+    ≡ slice_index_or old m (pos 0) +ℤ slice_index_or numbers m (pos 0))
+    → AddsNearTo powers more y old new
+adds_near_to powers more y old new numbers nears is halves m x few near =
+    rw (is m few) (near_add halves more x (y m) (slice_index_or old m (pos 0)) (slice_index_or numbers m (pos 0))
+    near (nears m few))
+
 pub adds_near : (more : ℕ) (y : ℕ → Fraction) (old new numbers : List ℤ)
     → ((m : ℕ) → m < 9 → IsNear more (y m) (slice_index_or numbers m (pos 0)))
     → ((m : ℕ) → m < 9 → slice_index_or new m (pos 0)
     ≡ slice_index_or old m (pos 0) +ℤ slice_index_or numbers m (pos 0))
     → AddsNear more y old new
-adds_near more y old new numbers nears is halves m x few near =
-    rw (is m few) (near_add halves more x (y m) (slice_index_or old m (pos 0)) (slice_index_or numbers m (pos 0))
-    near (nears m few))
+adds_near = adds_near_to 9
 
-pub adds_none : (more : ℕ) (y : ℕ → Fraction) (old : List ℤ) → ((m : ℕ) → y m ≡ whole (pos 0)) → AddsNear more y old old
-adds_none more y old none halves m x few near =
+pub adds_none_to : (powers more : ℕ) (y : ℕ → Fraction) (old : List ℤ) → ((m : ℕ) → y m ≡ whole (pos 0))
+    → AddsNearTo powers more y old old
+adds_none_to powers more y old none halves m x few near =
     let same : x +ℚ y m ≡ x = ap (λ z. x +ℚ z) (none m) ∙ ring (x ∷ []) (hlevel terms) refl in
     rw same (near_mono halves (halves + more) x (slice_index_or old m (pos 0)) (omega arith) near)
+
+pub adds_none : (more : ℕ) (y : ℕ → Fraction) (old : List ℤ) → ((m : ℕ) → y m ≡ whole (pos 0)) → AddsNear more y old old
+adds_none = adds_none_to 9
 
 -- what is read of a transition's curve and sum
 module _ (product : Product) (which : Which) (month cell i j e : ℕ) (found : transition_between product i j ≡ Some e)

@@ -15,14 +15,14 @@ use Rattle.cell_coeffs.specs.Rows.{IsMadeForFirst}
 use Rattle.cell_coeffs.proofs.Links.{found_inside}
 use Rattle.cell_coeffs.proofs.RowSteps.{found_by}
 
-same_is : (n : ℕ) → nat_eq n n ≡ true
+pub same_is : (n : ℕ) → nat_eq n n ≡ true
 same_is n = grind arith
 
-either_true : (a b : Bool) → b ≡ true → (a || b) ≡ true
+pub either_true : (a b : Bool) → b ≡ true → (a || b) ≡ true
 either_true a b is = rw is (grind arith)
 
 -- what is found passes the test
-found_passes : (test : ℕ → Bool) (xs : List ℕ) (e : ℕ) → find test xs ≡ Some e → test e ≡ true
+pub found_passes : (test : ℕ → Bool) (xs : List ℕ) (e : ℕ) → find test xs ≡ Some e → test e ≡ true
 found_passes test xs e is =
     let P : Option ℕ → Type 0 = λ found. (k : ℕ) → found ≡ Some k → test k ≡ true in
     found_by P test xs (λ k h. cc) (each test xs) e is
@@ -34,7 +34,7 @@ found_passes test xs e is =
         rw (← e) passes
 
 -- a transition's pair of states is among the links
-linked : (product : Product) (i j e : ℕ) → PairsAgree → transition_between product i j ≡ Some e
+pub linked : (product : Product) (i j e : ℕ) → PairsAgree → transition_between product i j ≡ Some e
     → is_link (graph_of product).edges i j ≡ true
 linked product i j e pairs is =
     let edges = (graph_of product).edges in

@@ -22,10 +22,10 @@ use Rattle.cell_bounds.specs.CellBounds.{rate_bound, load_bound}
 use Rattle.cell_coeffs.specs.Near.{IsNear, IsWithinUnit}
 use Rattle.cell_coeffs.specs.Products.{products_to, sizes_to}
 
-abbrev fine_unit : Fraction
+abbrev pub fine_unit : Fraction
 fine_unit = over (pos 1) (2 ^ 70)
 
-abbrev unit : Fraction
+abbrev pub unit : Fraction
 unit = over (pos 1) (2 ^ 64)
 
 -- the numbers of a product, one by one
@@ -69,13 +69,13 @@ rates_total : sum_to 9 (λ a. over (pos 1) 192 *ℚ rate_bound a +ℚ fine_unit)
 unfolding ◌+ℚ◌ ◌*ℚ◌ ◌-ℚ◌ opposite is_not_negative
 rates_total = record { le = refl }
 
-size-over : (z : ℤ) (d : ℕ) → size (over z d) ≡ over (pos (unsigned_abs z)) d
+pub size-over : (z : ℤ) (d : ℕ) → size (over z d) ≡ over (pos (unsigned_abs z)) d
 size-over (pos n) d = size_of_natural (natural n d)
 size-over (negsuc n) d = sym (size-opposite (over (negsuc n) d)) ∙ ap size (sym (over-opposite (negsuc n) d))
     ∙ size_of_natural (natural (suc n) d)
 
 -- the computed sum as a fraction
-products-are : (rates sums : List ℤ) (m k : ℕ) → over (products_to rates sums m k) (2 ^ 134)
+pub products-are : (rates sums : List ℤ) (m k : ℕ) → over (products_to rates sums m k) (2 ^ 134)
     ≡ sum_to k (λ a. over (slice_index_or rates a (pos 0)) (2 ^ 70)
     *ℚ over (slice_index_or sums (m - a) (pos 0)) (2 ^ 64))
 products-are rates sums m zero = over_none (2 ^ 134)

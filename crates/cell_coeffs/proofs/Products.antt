@@ -44,23 +44,31 @@ product_size rate a total r s is small so_far =
     rw (add-one, ← is) (omega (arith, size_of_sum total (r *ℤ s), term_size r s small))
 
 -- below 2^127
+pub sum_fits_to : (n : ℕ) (rate : List ℤ) (a : ℕ) (total : ℤ) → a ≤ n → sizes_to rate n < 2 ^ 63
+    → unsigned_abs total ≤ sizes_to rate a * 2 ^ 64 → FitsSigned w128 total
+sum_fits_to n rate a total few small so_far =
+    fits_signed_from_abs w128 total (omega (arith, sizes_mono rate a n few))
+
 pub sum_fits : (rate : List ℤ) (a : ℕ) (total : ℤ) → a ≤ 9 → sizes_to rate 9 < 2 ^ 63
     → unsigned_abs total ≤ sizes_to rate a * 2 ^ 64 → FitsSigned w128 total
-sum_fits rate a total few small so_far =
-    fits_signed_from_abs w128 total (omega (arith, sizes_mono rate a 9 few))
+sum_fits = sum_fits_to 9
 
-pub term_fits : (rate : List ℤ) (a : ℕ) (r s : ℤ) → r ≡ slice_index_or rate a (pos 0) → a < 9 → sizes_to rate 9 < 2 ^ 63
-    → unsigned_abs s ≤ 2 ^ 64 → FitsSigned w128 (r *ℤ s)
-term_fits rate a r s is few rates small =
+pub term_fits_to : (n : ℕ) (rate : List ℤ) (a : ℕ) (r s : ℤ) → r ≡ slice_index_or rate a (pos 0) → a < n
+    → sizes_to rate n < 2 ^ 63 → unsigned_abs s ≤ 2 ^ 64 → FitsSigned w128 (r *ℤ s)
+term_fits_to n rate a r s is few rates small =
     fits_signed_from_abs w128 (r *ℤ s) (omega (
       arith,
-      sizes_mono rate (suc a) 9 (omega arith),
+      sizes_mono rate (suc a) n (omega (arith, few)),
       term_size r s small,
       is_abs,
     ))
   where
     is_abs : unsigned_abs r ≤ sizes_to rate (suc a)
     is_abs = rw is (omega arith)
+
+pub term_fits : (rate : List ℤ) (a : ℕ) (r s : ℤ) → r ≡ slice_index_or rate a (pos 0) → a < 9 → sizes_to rate 9 < 2 ^ 63
+    → unsigned_abs s ≤ 2 ^ 64 → FitsSigned w128 (r *ℤ s)
+term_fits = term_fits_to 9
 
 pub opposite_fits : (z : ℤ) → unsigned_abs z ≤ 2 ^ 65 - 64 → FitsSigned w128 (neg_ℤ z)
 opposite_fits z small = fits_signed_from_abs w128 (neg_ℤ z) (rw (size_of_opposite z) (omega arith))

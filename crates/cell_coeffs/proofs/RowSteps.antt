@@ -28,7 +28,7 @@ use Rattle.ledger_laws.proofs.Extremes.{All-list_of}
 use Rattle.linear_system.specs.StoredSystem.{StoredSystem, dim_of, stored_number, place_of}
 use Rattle.linear_system.specs.Setting.{HasPlace, HaveSamePlaces}
 use Rattle.cell_coeffs.specs.Near.{IsNear, IsStored}
-use Rattle.cell_coeffs.specs.Rows.{AddsNear, KeepsOthers, IsMadeForFirst}
+use Rattle.cell_coeffs.specs.Rows.{AddsNear, AddsNearTo, KeepsOthers, HasFirstPlaces, IsMadeForFirst}
 use Rattle.cell_coeffs.specs.StoredRows.{HasLinks, KeepsRows, IsStoredRow}
 use Rattle.cell_coeffs.proofs.Writes.{same_places_then}
 
@@ -43,12 +43,12 @@ found_by P test (x ∷ xs) bare all =
     choose true h later = All-head (λ e. test e ≡ true → P (Some e)) x xs all h
     choose false h later = later
 
-both_true : (a b : Bool) → (a && b) ≡ true → (a ≡ true) × (b ≡ true)
+pub both_true : (a b : Bool) → (a && b) ≡ true → (a ≡ true) × (b ≡ true)
 both_true true true h = (refl, refl)
 both_true true false h = (refl, h)
 both_true false b h = absurd (false≢true h)
 
-same_numbers : (a b : ℕ) → (a == b) ≡ true → a ≡ b
+pub same_numbers : (a b : ℕ) → (a == b) ≡ true → a ≡ b
 same_numbers a b h = elim (eqb_tells a b) [
   | inl same ↦ same.1
   | inr other ↦ absurd (false≢true (sym other.0 ∙ h))
@@ -68,9 +68,10 @@ no_loop product i formed =
     ∙ sym (same_numbers (transition_at product e).to i (both_true _ _ h).1)))))
 
 -- one addition after another
-pub adds_then : (a b c : ℕ) (y z w : ℕ → Fraction) (old mid new : List ℤ) → a + b ≡ c → ((m : ℕ) → y m +ℚ z m ≡ w m)
-    → AddsNear a y old mid → AddsNear b z mid new → AddsNear c w old new
-adds_then a b c y z w old mid new sum are first second halves m x few near =
+pub adds_then_to : (powers a b c : ℕ) (y z w : ℕ → Fraction) (old mid new : List ℤ) → a + b ≡ c
+    → ((m : ℕ) → y m +ℚ z m ≡ w m) → AddsNearTo powers a y old mid → AddsNearTo powers b z mid new
+    → AddsNearTo powers c w old new
+adds_then_to powers a b c y z w old mid new sum are first second halves m x few near =
     let total : (halves + a) + b ≡ halves + c = omega (arith, sum) in
     let value : (x +ℚ y m) +ℚ z m ≡ x +ℚ w m =
     joined x (y m) (z m) ∙ ap (λ v. x +ℚ v) (are m) in
@@ -78,6 +79,10 @@ adds_then a b c y z w old mid new sum are first second halves m x few near =
   where
     joined : (x y z : Fraction) → (x +ℚ y) +ℚ z ≡ x +ℚ (y +ℚ z)
     joined x y z = ring (x ∷ y ∷ z ∷ []) (hlevel terms) refl
+
+pub adds_then : (a b c : ℕ) (y z w : ℕ → Fraction) (old mid new : List ℤ) → a + b ≡ c → ((m : ℕ) → y m +ℚ z m ≡ w m)
+    → AddsNear a y old mid → AddsNear b z mid new → AddsNear c w old new
+adds_then = adds_then_to 9
 
 pub place_kept : (old new : StoredSystem) (i j : ℕ) → HaveSamePlaces old new → HasPlace old i j → HasPlace new i j
 place_kept old new i j same place =
@@ -87,6 +92,23 @@ place_kept old new i j same place =
       col_in = rw same.dim place.col_in;
       has_column = subst P (sym (same.columns i)) place.has_column;
     }
+
+pub places_kept : (product : Product) (old new : StoredSystem) → HaveSamePlaces old new → HasFirstPlaces product old
+    → HasFirstPlaces product new
+places_kept product old new same made = record {
+  fits = rw same.dim made.fits;
+  powers = rw same.degree made.powers;
+  diagonal = λ i b. place_kept old new i i same (made.diagonal i b);
+  links = λ i j e b c is. place_kept old new i j same (made.links i j e b c is);
+}
+
+pub first_places : (product : Product) (s : StoredSystem) → IsMadeForFirst product s → HasFirstPlaces product s
+first_places product s made = record {
+  fits = omega (arith, made.dim_is);
+  powers = made.powers;
+  diagonal = made.diagonal;
+  links = made.links;
+}
 
 pub made_kept : (product : Product) (old new : StoredSystem) → HaveSamePlaces old new → IsMadeForFirst product old
     → IsMadeForFirst product new
@@ -133,7 +155,7 @@ rows_then a b c row col first second = record {
 
 -- the row of a state, once its links, its diagonal and its free numbers are written
 module _ (cell : CellCurves) (h : Fraction) (i : ℕ) (first second third : StoredSystem) (leaving free : List ℤ)
-    (inside : i < cell.states) (dim : dim_of first ≡ cell.states) (links : HasLinks cell i cell.states first)
+    (inside : i < cell.states) (dim : cell.states ≤ dim_of first) (links : HasLinks cell i cell.states first)
     (diagonal : WritesNumbers first second i i 6 (λ m. nearest_of (neg_ℤ (slice_index_or leaving m (pos 0)))))
     (last : WritesNumbers second third i (dim_of second) 9 (λ m. nearest_of (slice_index_or free m (pos 0))))
     (near_leaving : (m : ℕ) → m < 9 → IsNear 62 (interest_at cell m +ℚ leaving_at cell i m)
@@ -144,11 +166,8 @@ module _ (cell : CellCurves) (h : Fraction) (i : ℕ) (first second third : Stor
     (loop : (m : ℕ) → intensity_at cell i i m ≡ whole (pos 0))
     (interest_none : (m : ℕ) → 6 ≤ m → interest_at cell m ≡ whole (pos 0))
     (intensity_none : (i j m : ℕ) → 6 ≤ m → intensity_at cell i j m ≡ whole (pos 0)) where
-  dim_second : dim_of second ≡ cell.states
-  dim_second = diagonal.places.dim ∙ dim
-
-  dim_third : dim_of third ≡ cell.states
-  dim_third = last.places.dim ∙ dim_second
+  dim_second : cell.states ≤ dim_of second
+  dim_second = omega (arith, diagonal.places.dim, dim)
 
   not_free : (c : ℕ) → c < cell.states → c ≢ dim_of second
   not_free c b e = absurd (omega (arith, b, e, dim_second))

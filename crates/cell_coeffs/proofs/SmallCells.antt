@@ -28,7 +28,7 @@ use Rattle.cell_bounds.proofs.CellConstants.{rates_total, interest_total, rate_n
 use Rattle.moment_laws.proofs.ScaledRuns.{free-scaled}
 use Rattle.cell_coeffs.specs.Rows.{IsSmallCell}
 
-number_past : (v : Vector) (m : ℕ) → length v ≤ m → number_at v m ≡ whole (pos 0)
+pub number_past : (v : Vector) (m : ℕ) → length v ≤ m → number_at v m ≡ whole (pos 0)
 number_past [] m past = refl
 number_past (x ∷ v) zero past = absurd (omega arith)
 number_past (x ∷ v) (suc m) past = number_past v m (omega arith)

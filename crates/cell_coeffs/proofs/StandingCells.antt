@@ -19,14 +19,14 @@ use Rattle.model_specs.specs.Whole.{list_of}
 use Rattle.model_laws.proofs.ListsByPlace.{past-list_of, at-list_of, length-list_of}
 use Rattle.model_laws.proofs.CellEntries.{systems_have_entries, systems_keep_states}
 use Rattle.linear_system.specs.StoredSystem.{StoredSystem, dim_of, stored_number, stored_free}
-use Rattle.linear_system.specs.StandsFor.{units, StandsFor}
+use Rattle.linear_system.specs.StandsFor.{units, StandsFor, MatricesStandNear, VectorsStandNear}
 use Rattle.cell_bounds.specs.ScaledSystems.{scaled_system}
 use Rattle.moment_laws.proofs.ScaledRuns.{free-scaled}
 use Rattle.cell_bounds.proofs.TableNorms.{unit_at, where_same-is}
 use Rattle.cell_coeffs.specs.StoredRows.{IsStoredRow}
 use Rattle.cell_coeffs.proofs.Links.{stored_zero}
 
-module _ (cell : CellCurves) (h : Fraction) (s : StoredSystem) (dim : dim_of s ≡ cell.states)
+module _ (cell : CellCurves) (h : Fraction) (s : StoredSystem)
     (rows : (i : ℕ) → i < cell.states → IsStoredRow cell h i s)
     (interest_none : (m : ℕ) → 6 ≤ m → interest_at cell m ≡ whole (pos 0))
     (intensity_none : (i j m : ℕ) → 6 ≤ m → intensity_at cell i j m ≡ whole (pos 0)) where
@@ -112,24 +112,25 @@ module _ (cell : CellCurves) (h : Fraction) (s : StoredSystem) (dim : dim_of s �
   three : (x : Fraction) → x ≤ℚ units (pos 1) → x ≤ℚ units (pos 3)
   three x within = le_trans within (linear [] (natural 0 1) (hlevel claims) refl)
 
-  pub stands_for_thiele : StandsFor s (scaled_system h (thiele_system cell))
-  stands_for_thiele = record {
-    dimension = sym dim;
-    matrices = record {
-      near = λ i c m b d. near i c m (rw dim at b) (rw dim at d);
-      rows = λ m. rw dim ((systems_keep_states cell).thiele.rows m);
-      columns = λ m i. rw dim (columns m i);
-      no_more = λ i c m past. ap (λ (a : Matrix). number_at (vector_at a i) c) (matrix_none m (omega (arith, past)));
-    };
-    free = record {
-      near = λ i m b. three _ (free_near i m (rw dim at b));
-      rows = λ m. rw (
-        dim,
-        free-scaled h (thiele_system cell).free m,
-        length-scale_list h
-            (vector_at (thiele_system cell).free m),
-      )
-          ((systems_keep_states cell).thiele.free m);
-      no_more = free_gone;
-    };
+  pub thiele_matrices : MatricesStandNear 1 cell.states (stored_number s) exact
+  thiele_matrices = record {
+    near = near;
+    rows = λ m. (systems_keep_states cell).thiele.rows m;
+    columns = columns;
+    no_more = λ i c m past. ap (λ (a : Matrix). number_at (vector_at a i) c) (matrix_none m (omega (arith, past)));
   }
+
+  pub thiele_free : VectorsStandNear 3 cell.states (stored_free s) (map (scale_list h) (thiele_system cell).free)
+  thiele_free = record {
+    near = λ i m b. three _ (free_near i m b);
+    rows = λ m. rw (
+      free-scaled h (thiele_system cell).free m,
+      length-scale_list h (vector_at (thiele_system cell).free m),
+    )
+        ((systems_keep_states cell).thiele.free m);
+    no_more = free_gone;
+  }
+
+  pub stands_for_thiele : dim_of s ≡ cell.states → StandsFor s (scaled_system h (thiele_system cell))
+  stands_for_thiele dim =
+      record { dimension = sym dim; matrices = rw dim thiele_matrices; free = rw dim thiele_free }

@@ -4,4 +4,9 @@ pub mod Writing
 pub mod Rows
 pub mod StoredRows
 pub mod Jobs
+pub mod ForwardColumns
 pub mod Lumps
+pub mod SecondLumps
+pub mod Cut
+pub mod PairRows
+pub mod PairPlaces

@@ -37,10 +37,14 @@ pub record IsSmallCell (cell : CellCurves) (h : Fraction) : Type 0 where
   pub interest_none : (m : ℕ) → 6 ≤ m → interest_at cell m ≡ whole (pos 0)
   pub intensity_none : (i j m : ℕ) → 6 ≤ m → intensity_at cell i j m ≡ whole (pos 0)
 
--- numbers near x by so many halves of a fine unit are near x and y by so many more
+-- of the first powers: numbers near x by so many halves of a fine unit are near x and y by so many more
+abbrev pub AddsNearTo : (powers more : ℕ) → (ℕ → Fraction) → List ℤ → List ℤ → Type 0
+AddsNearTo powers more y old new = (halves m : ℕ) (x : Fraction) → m < powers
+    → IsNear halves x (slice_index_or old m (pos 0)) → IsNear (halves + more) (x +ℚ y m) (slice_index_or new m (pos 0))
+
+-- of the nine powers of a row of Thiele's equation
 abbrev pub AddsNear : ℕ → (ℕ → Fraction) → List ℤ → List ℤ → Type 0
-AddsNear more y old new = (halves m : ℕ) (x : Fraction) → m < 9 → IsNear halves x (slice_index_or old m (pos 0))
-    → IsNear (halves + more) (x +ℚ y m) (slice_index_or new m (pos 0))
+AddsNear = AddsNearTo 9
 
 -- no number has grown by more than 1
 abbrev pub GrowsLittle : List ℤ → List ℤ → Type 0
@@ -52,6 +56,15 @@ pub record KeepsOthers (old new : StoredSystem) (row col : ℕ) : Type 0 where
   pub places : HaveSamePlaces old new
   pub columns : (c m : ℕ) → c ≢ col → stored_number new row c m ≡ stored_number old row c m
   pub rows : (r c m : ℕ) → r ≢ row → stored_number new r c m ≡ stored_number old r c m
+
+-- a system with room for the first moments of a product: places for each transition and on the diagonal of the first
+-- rows, and powers up to 8
+pub record HasFirstPlaces (product : Product) (s : StoredSystem) : Type 0 where
+  pub fits : length product.states ≤ dim_of s
+  pub powers : 8 ≤ s.degree
+  pub diagonal : (i : ℕ) → i < length product.states → HasPlace s i i
+  pub links : (i j e : ℕ) → i < length product.states → j < length product.states
+      → transition_between product i j ≡ Some e → HasPlace s i j
 
 -- a system for the first moments of a product: places for each transition and on the diagonal, and powers up to 8
 pub record IsMadeForFirst (product : Product) (s : StoredSystem) : Type 0 where

@@ -1,9 +1,10 @@
 //! Filling a system.
 
-ghost use Rattle.std.specs.Prelude.{◌≡◌, ℕ, ◌<◌, ◌≤◌, length, IsTrue};
+ghost use Rattle.std.specs.Prelude.{◌≡◌, ℕ, ◌<◌, ◌≤◌, pos, length, IsTrue};
 ghost use Rattle.linear_system.specs.DegreeLimit.{IsConstant};
 ghost use Rattle.linear_system.specs.Setting.{HaveSamePlaces};
 ghost use Rattle.linear_system.specs.StandsFor.{StandsFor};
+ghost use Rattle.linear_system.specs.StoredSystem.{stored_number};
 ghost use Rattle.model_specs.specs.Ledgers.{scale};
 ghost use Rattle.model_specs.specs.Stretches.{is_constant_month};
 ghost use Rattle.model_specs.specs.Systems.{thiele_system};
@@ -11,7 +12,7 @@ ghost use Rattle.model_specs.specs.ValuationRules.{IsAdmissible};
 ghost use Rattle.payment_plan.specs.Payments.{plan_of};
 ghost use Rattle.product_model.specs.Views.{payments_of};
 ghost use Rattle.cell_bounds.specs.ScaledSystems.{scaling, scaled_system};
-ghost use Rattle.cell_coeffs.specs.Rows.{cell_at, IsSmallCell, IsMadeForFirst};
+ghost use Rattle.cell_coeffs.specs.Rows.{cell_at, IsSmallCell, HasFirstPlaces, IsMadeForFirst};
 ghost use Rattle.cell_coeffs.specs.StoredRows.{IsStoredRow};
 ghost use Rattle.cell_coeffs.specs.Jobs.{which_of};
 
@@ -37,15 +38,16 @@ fn plan_of_job(job: Job) -> Which
     }
 }
 
-// Thiele's system.
-fn fill_first(p: &Product, at: Place, out: &mut CellSystem)
+// Thiele's system, in the first rows.
+pub(crate) fn fill_first(p: &Product, at: Place, out: &mut CellSystem)
     requires month { at.month < p.now.months }
     requires cell { at.cell < 32 }
     requires scale { at.g ≤ 56 }
     requires small { IsSmallCell (cell_at p.now at.which at.month at.cell) (scaling at.g) }
-    requires made { IsMadeForFirst p.now out.old }
+    requires made { HasFirstPlaces p.now out.old }
     ensures stands { (i : ℕ) → i < length p.now.states
         → IsStoredRow (cell_at p.now at.which at.month at.cell) (scaling at.g) i out.new }
+    ensures rest { (i c m : ℕ) → length p.now.states ≤ i → stored_number out.new i c m ≡ pos 0 }
     ensures places { HaveSamePlaces out.old out.new }
 {
     out.clear();

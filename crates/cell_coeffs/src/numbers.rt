@@ -7,6 +7,7 @@ ghost use Rattle.frac_laws.specs.Lists.{number_at};
 ghost use Rattle.frac_laws.specs.Rounding.{floor_of};
 ghost use Rattle.model_specs.specs.Cells as cells;
 ghost use Rattle.model_specs.specs.RecordRules.{IsBoundedStep};
+ghost use Rattle.curve_pieces.specs.Directions.{direction_of};
 ghost use Rattle.payment_plan.specs.Records.{record_of};
 ghost use Rattle.cell_bounds.specs.ScaledSystems.{scaling};
 ghost use Rattle.cell_coeffs.specs.Near.{IsNear, IsWithinUnit};
@@ -58,7 +59,25 @@ fn coarse_all(n: &[i128], den: i128) -> [i128; 9]
     numbers
 }
 
-// The coefficients of a curve in a cell, in units of 2^-70.
+// The coefficients of a curve in a cell of a direction, in units of 2^-70.
+pub(crate) fn numbers_in(curve: &Curve, den: i64, month: u32, cell: u32, dir: Dir) -> [i128; 9]
+    requires month { month < curve.now.months }
+    requires cell { cell < 32 }
+    requires some_den { pos 1 ≤ℤ den }
+    requires largest_den { den ≤ℤ pos (10 ^ 12) }
+    requires small { (m : ℕ) → size (number_at (cells.curve_cell (cells.cells_of_32 (direction_of dir))
+        (unsigned_abs den) curve.now.pieces month cell) m) ≤ℚ over (pos 1) 64 }
+    ensures near { (m : ℕ) → IsNear 2 (number_at (cells.curve_cell (cells.cells_of_32 (direction_of dir))
+        (unsigned_abs den) curve.now.pieces month cell) m) (slice_index_or result m (pos 0)) }
+    ensures beyond { (m : ℕ) → 6 ≤ m → number_at (cells.curve_cell (cells.cells_of_32 (direction_of dir))
+        (unsigned_abs den) curve.now.pieces month cell) m ≡ whole (pos 0) }
+    ensures size { (m : ℕ) → unsigned_abs (slice_index_or result m (pos 0)) ≤ 2 ^ 64 }
+{
+    let n = curve.cell_of(month, cell, dir).n;
+    fine_all(&n, i128::from(den) * YEAR_6)
+}
+
+// The coefficients of a curve in a backward cell, in units of 2^-70.
 pub(crate) fn curve_numbers(curve: &Curve, den: i64, month: u32, cell: u32) -> [i128; 9]
     requires month { month < curve.now.months }
     requires cell { cell < 32 }
@@ -72,8 +91,7 @@ pub(crate) fn curve_numbers(curve: &Curve, den: i64, month: u32, cell: u32) -> [
         (unsigned_abs den) curve.now.pieces month cell) m ≡ whole (pos 0) }
     ensures size { (m : ℕ) → unsigned_abs (slice_index_or result m (pos 0)) ≤ 2 ^ 64 }
 {
-    let n = curve.cell_of(month, cell, Dir::Backward).n;
-    fine_all(&n, i128::from(den) * YEAR_6)
+    numbers_in(curve, den, month, cell, Dir::Backward)
 }
 
 // A sojourn rate in a cell, divided by 2^g, in units of 2^-70.

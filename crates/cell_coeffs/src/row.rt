@@ -1,12 +1,12 @@
 //! One row: what a state pays and loses in a cell.
 
-ghost use Rattle.std.specs.Prelude.{◌≡◌, ℕ, ◌+◌, ◌*◌, ◌^◌, ◌<◌, ◌≤◌, pos, unsigned_abs, length, slice_index_or};
+ghost use Rattle.std.specs.Prelude.{◌≡◌, ℕ, ◌*◌, ◌^◌, ◌<◌, ◌≤◌, pos, unsigned_abs, length, slice_index_or};
 ghost use Rattle.frac_laws.specs.Fraction.{◌*ℚ◌};
 ghost use Rattle.model_specs.specs.Systems.{interest_at, intensity_at, leaving_at, first_payment_at};
 ghost use Rattle.linear_system.specs.StoredSystem.{stored_number};
 ghost use Rattle.cell_bounds.specs.ScaledSystems.{scaling};
 ghost use Rattle.cell_coeffs.specs.Near.{IsNear, IsStored};
-ghost use Rattle.cell_coeffs.specs.Rows.{cell_at, IsSmallCell, AddsNear, GrowsLittle, KeepsOthers, IsMadeForFirst};
+ghost use Rattle.cell_coeffs.specs.Rows.{cell_at, IsSmallCell, AddsNear, GrowsLittle, KeepsOthers, HasFirstPlaces};
 ghost use Rattle.cell_coeffs.specs.StoredRows.{HasLinks, KeepsRows, IsStoredRow};
 ghost use Rattle.frac_laws.specs.Sums.{sum_to};
 
@@ -43,7 +43,7 @@ fn fill_link(
     requires cell { at.cell < 32 }
     requires scale { at.g ≤ 56 }
     requires small { IsSmallCell (cell_at p.now at.which at.month at.cell) (scaling at.g) }
-    requires made { IsMadeForFirst p.now out.old }
+    requires made { HasFirstPlaces p.now out.old }
     requires few_leaving { (m : ℕ) → unsigned_abs (slice_index_or leaving.old m (pos 0)) ≤ 2 ^ 70 }
     requires few_free { (m : ℕ) → unsigned_abs (slice_index_or free.old m (pos 0)) ≤ 2 ^ 70 }
     ensures leaving { AddsNear 2 (intensity_at (cell_at p.now at.which at.month at.cell) from to) leaving.old
@@ -82,7 +82,7 @@ fn fill_links(
     requires cell { at.cell < 32 }
     requires scale { at.g ≤ 56 }
     requires small { IsSmallCell (cell_at p.now at.which at.month at.cell) (scaling at.g) }
-    requires made { IsMadeForFirst p.now out.old }
+    requires made { HasFirstPlaces p.now out.old }
     requires few_leaving { (m : ℕ) → unsigned_abs (slice_index_or leaving.old m (pos 0)) ≤ 2 ^ 64 }
     requires few_free { (m : ℕ) → unsigned_abs (slice_index_or free.old m (pos 0)) ≤ 2 ^ 64 }
     requires none { (c m : ℕ) → stored_number out.old state c m ≡ pos 0 }
@@ -111,7 +111,7 @@ pub(crate) fn fill_row(
     requires cell { at.cell < 32 }
     requires scale { at.g ≤ 56 }
     requires small { IsSmallCell (cell_at p.now at.which at.month at.cell) (scaling at.g) }
-    requires made { IsMadeForFirst p.now out.old }
+    requires made { HasFirstPlaces p.now out.old }
     requires interest { (m : ℕ) → IsNear 2 (interest_at (cell_at p.now at.which at.month at.cell) m)
         (slice_index_or interest.now m (pos 0)) }
     requires few { (m : ℕ) → unsigned_abs (slice_index_or interest.now m (pos 0)) ≤ 2 ^ 64 }

@@ -7,6 +7,7 @@ use Rattle.cell_coeffs.specs.Jobs.{which_of}
 use Rattle.cell_coeffs.specs.Rows.{cell_at}
 use Rattle.cell_coeffs.proofs.AdmissibleCells.{admissible_cell}
 use Rattle.cell_coeffs.proofs.FlatCells.{flat_cell, stored_constant}
+use Rattle.cell_coeffs.proofs.RowSteps.{first_places}
 use Rattle.cell_coeffs.proofs.StandingCells.{stands_for_thiele}
 use Rattle.cell_coeffs.proofs.job.fill.Goals as goal
 
@@ -15,14 +16,17 @@ fill_first-requires-clause-small c =
     rw c.plan_of_job.ensures (admissible_cell (which_of c.args.job) c.args.p.now c.args.g c.args.month c.args.cell
     c.requires.admissible c.requires.scale c.requires.month c.requires.cell)
 
+pub fill_first-requires-clause-made : goal.fill_first-requires-clause-made
+fill_first-requires-clause-made c = first_places c.args.p.now c.args.out.now c.requires.made
+
 pub returns-clause-stands : goal.returns-clause-stands
 returns-clause-stands c =
     let small = admissible_cell (which_of c.args.job) c.args.p.now c.args.g c.args.month c.args.cell
     c.requires.admissible c.requires.scale c.requires.month c.requires.cell in
     let rows = rw c.plan_of_job.ensures at c.fill_first.ensures.stands in
     stands_for_thiele (cell_at c.args.p.now (which_of c.args.job) c.args.month c.args.cell) (scaling c.args.g)
-    c.fill_first.new.out
-    (c.fill_first.ensures.places.dim ∙ c.requires.made.dim_is) rows small.interest_none small.intensity_none
+    c.fill_first.new.out rows small.interest_none small.intensity_none
+    (c.fill_first.ensures.places.dim ∙ c.requires.made.dim_is)
 
 pub returns-clause-constant : goal.returns-clause-constant
 returns-clause-constant c =

@@ -1,6 +1,6 @@
 use Rattle.cell_bounds.specs.ScaledSystems.{scaling}
 use Rattle.cell_coeffs.specs.Rows.{cell_at}
-use Rattle.cell_coeffs.proofs.RowSteps.{made_kept, rows_more, none_more}
+use Rattle.cell_coeffs.proofs.RowSteps.{places_kept, rows_more, none_more}
 use Rattle.cell_coeffs.proofs.Writes.{same_places_then}
 use Rattle.cell_coeffs.proofs.job.fill_first.Goals as goal
 
@@ -13,5 +13,5 @@ loop-state-preserved c =
           c.fill_row.ensures.stands;
       none = none_more c.loop-state.state _ _ rows c.loop-state.invariant.none;
       places = same_places_then _ _ _ c.loop-state.invariant.places rows.places;
-      made = made_kept c.args.p.now _ _ rows.places c.loop-state.invariant.made;
+      made = places_kept c.args.p.now _ _ rows.places c.loop-state.invariant.made;
     }

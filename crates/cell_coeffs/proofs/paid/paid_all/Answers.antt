@@ -1,6 +1,7 @@
 use Rattle.std.proofs.Common.{ℕ, ◌+◌, ◌^◌, pos, length, ◌<◌, ◌∙◌, arith, rules, length-set, FitsSigned}
 use Rattle.std.specs.Int.{w128}
 use Rattle.std.proofs.lemmas.Int.{to_z-of_z}
+use Rattle.std.proofs.lemmas.List.{get_or_past}
 use Rattle.frac_laws.specs.Rounding.{floor_of}
 use Rattle.cell_coeffs.specs.Products.{products_to}
 use Rattle.cell_coeffs.proofs.Setting.{set_below, set_small}
@@ -18,3 +19,6 @@ loop-m-preserved c =
       size = set_small c.loop-m.numbers c.loop-m.m c.paid.result (2 ^ 63) inside c.loop-m.invariant.size
           c.paid.ensures.size;
     })
+
+pub returns-clause-none : goal.returns-clause-none
+returns-clause-none c m past = get_or_past c.loop-m.numbers m (pos 0) (omega (arith, c.loop-m.invariant.long, past))

@@ -7,7 +7,7 @@ use Rattle.model_specs.specs.Systems.{intensity_at, first_payment_at}
 use Rattle.cell_bounds.specs.ScaledSystems.{scaling}
 use Rattle.cell_coeffs.specs.Rows.{cell_at}
 use Rattle.cell_coeffs.proofs.Links.{intensity-none, adds_none}
-use Rattle.cell_coeffs.proofs.RowSteps.{no_loop, adds_then, made_kept, links_more, rows_then}
+use Rattle.cell_coeffs.proofs.RowSteps.{no_loop, adds_then, places_kept, links_more, rows_then}
 use Rattle.cell_coeffs.proofs.row.fill_links.Goals as goal
 
 none_yet : (h : Fraction) → h *ℚ sum_to 0 (λ j. h) ≡ sum_to 0 (λ j. h)
@@ -65,5 +65,5 @@ loop-to-preserved c =
           (λ m. intensity-none c.args.p.now c.args.at.which c.args.at.month c.args.at.cell i i m
           (no_loop c.args.p.now i c.graph.ensures.lawful));
       rows = rows_then _ _ _ i k inv.rows others;
-      made = made_kept c.args.p.now _ _ others.places inv.made;
+      made = places_kept c.args.p.now _ _ others.places inv.made;
     }

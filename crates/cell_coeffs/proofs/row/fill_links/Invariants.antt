@@ -4,7 +4,7 @@ use Rattle.frac_laws.specs.Fraction.{◌*ℚ◌}
 use Rattle.frac_laws.specs.Sums.{sum_to}
 use Rattle.model_specs.specs.Systems.{intensity_at, first_payment_at}
 use Rattle.cell_bounds.specs.ScaledSystems.{scaling}
-use Rattle.cell_coeffs.specs.Rows.{cell_at, AddsNear, IsMadeForFirst}
+use Rattle.cell_coeffs.specs.Rows.{cell_at, AddsNear, HasFirstPlaces}
 use Rattle.cell_coeffs.specs.StoredRows.{HasLinks, KeepsRows}
 use Rattle.cell_coeffs.proofs.row.fill_links.Given as goal
 
@@ -20,5 +20,5 @@ invariant-loop-to l =
       few_free : (m : ℕ) → unsigned_abs (slice_index_or l.free m (pos 0)) ≤ (l.to + 1) * 2 ^ 64;
       links : HasLinks cell l.state l.to l.out;
       rows : KeepsRows l.initial.out l.out l.state;
-      made : IsMadeForFirst l.p l.out;
+      made : HasFirstPlaces l.p l.out;
     }

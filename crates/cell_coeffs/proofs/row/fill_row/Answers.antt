@@ -1,4 +1,4 @@
-use Rattle.std.proofs.Common.{◌≡◌, ◌≤◌, ◌<◌, ℕ, ◌*◌, pos, ◌∙◌, arith, length, slice_index_or}
+use Rattle.std.proofs.Common.{◌≡◌, ◌≤◌, ◌<◌, ℕ, ◌*◌, pos, arith, length, slice_index_or}
 use Rattle.frac_laws.specs.Fraction.{Fraction, over, size, ◌*ℚ◌, ◌+ℚ◌, ◌≤ℚ◌}
 use Rattle.frac_laws.specs.Lists.{number_at}
 use Rattle.frac_laws.specs.Sums.{sum_to}
@@ -90,7 +90,8 @@ returns-clause-stands c =
     c.sojourn_numbers-free.ensures.near in
     row_done cell (scaling c.args.at.g) c.args.state c.fill_links.new.out c.put_diagonal.new.out c.put_free.new.out
     c.fill_links.new.leaving c.fill_links.new.free c.requires.state
-    (c.fill_links.ensures.rows.places.dim ∙ c.requires.made.dim_is) c.fill_links.ensures.links c.put_diagonal.ensures
+    (omega (arith, c.fill_links.ensures.rows.places.dim, c.requires.made.fits)) c.fill_links.ensures.links
+    c.put_diagonal.ensures
     c.put_free.ensures
     (λ m few. leaving_near (length c.args.p.now.states) m (interest_at cell m) (interest_at cell m)
     (leaving_at cell c.args.state)
