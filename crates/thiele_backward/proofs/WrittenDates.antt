@@ -1,13 +1,15 @@
 -- The rows of a table of reserves, as a sweep goes back over its dates.
-use Rattle.std.proofs.Common.{◌≡◌, ℕ, suc, ◌+◌, ◌-◌, ◌*◌, ◌/◌, ◌%◌, ◌^◌, ◌<◌, ◌≤◌, ℤ, pos, ◌+ℤ◌, ◌≤ℤ◌, List, length}
-use Rattle.std.proofs.Common.{ap, sym, subst, ◌∙◌, refl, inl, inr, arith, set, below_more, get_or-set_same, get_or-set_other}
-use Rattle.std.specs.Prelude.{slice_index_or}
+use Rattle.std.proofs.Common.{◌≡◌, ℕ, ◌+◌, ◌-◌, ◌*◌, ◌/◌, ◌%◌, ◌^◌, ◌<◌, ◌≤◌, ℤ, pos, ◌+ℤ◌, ◌≤ℤ◌, List, length}
+use Rattle.std.proofs.Common.{[], ◌∷◌, refl, ap, sym, subst, ◌∙◌, inl, inr, arith, set, below_more, get_or-set_same, get_or-set_other}
 use Rattle.std.proofs.lemmas.Int.{ints}
 use Rattle.std.proofs.lemmas.Bool.Decides.{eqb_tells}
 use Rattle.std.proofs.lemmas.Nat.{div-mul-add, mod-mul-add}
 use Rattle.std.proofs.Math.Nat.{div-add-mod, div-lt_iff_lt-mul, mul-le-mul}
-use Rattle.frac_laws.specs.Fraction.{Fraction}
+use Rattle.frac_laws.specs.Fraction.{Fraction, over, size, ◌+ℚ◌, ◌-ℚ◌, ◌≤ℚ◌}
 use Rattle.frac_laws.specs.Ledger.{tolerance_first}
+use Rattle.frac_laws.proofs.Linear.{linear, claims, ◌⊞◌}
+use Rattle.frac_laws.proofs.Quotients.{over_add, over_sub}
+use Rattle.frac_laws.proofs.Sizes.{le_size, opposite_le_size}
 use Rattle.fixed_interval.specs.declared.interval.Interval.{Interval}
 use Rattle.fixed_interval.specs.declared.printed.Printed.{Printed}
 use Rattle.fixed_interval.specs.Intervals.{LiesIn, LiesInside}
@@ -17,7 +19,7 @@ use Rattle.fixed_interval.specs.Tables.{AreEndsFor, IsAnsweredDegree, ends_at}
 use Rattle.fixed_interval.proofs.Enclosing.{inside_lies_in}
 use Rattle.model_specs.specs.Product.{Product}
 use Rattle.thiele_backward.specs.Dates.{IsReserveAt, HasDate, KeepsRowsFrom, ends_of}
-use Rattle.thiele_backward.specs.Results.{AreReserves}
+use Rattle.thiele_backward.specs.Results.{AreReserves, HoldAround}
 use Rattle.thiele_backward.specs.Sweeps.{BackwardSweep}
 
 -- the printed ends of an interval that holds numbers and is no wider than twice a radius
@@ -39,6 +41,25 @@ ends_for degree spare radius g exact i ends held width ordered small encloses na
     one_more : (lo hi : ℤ) (n : ℕ) → hi ≤ℤ (lo +ℤ pos (n + 1)) → hi ≤ℤ (lo +ℤ pos (n + 2))
     one_more lo hi n h = omega (arith, ints)
 
+-- what is within some units of a number that lies as many units inside an interval
+pub around_for : (degree spare : ℕ) (exact : ℕ → Fraction) (i : Interval) (ends : Printed)
+    → ((n : ℕ) → degree ≤ n → LiesInside spare (exact n) i) → ((x : Fraction) → LiesIn x i → LiesBetween ends x)
+    → HoldAround degree exact (over (pos spare) (2 ^ 64)) ends
+around_for degree spare exact i ends held encloses n x from near = encloses x (record {
+  at_least = below (over i.lo (2 ^ 64)) (over (pos spare) (2 ^ 64)) (exact n) x
+      (rw (over_add i.lo (pos spare) (2 ^ 64)) at (held n from).at_least) near;
+  at_most = above (over i.hi (2 ^ 64)) (over (pos spare) (2 ^ 64)) (exact n) x
+      (rw (over_sub i.hi (pos spare) (2 ^ 64)) at (held n from).at_most) near;
+})
+  where
+    below : (lo s v x : Fraction) → lo +ℚ s ≤ℚ v → size (x -ℚ v) ≤ℚ s → lo ≤ℚ x
+    below lo s v x inside near = linear (lo ∷ s ∷ v ∷ x ∷ size (x -ℚ v) ∷ [])
+        (inside ⊞ near ⊞ opposite_le_size (x -ℚ v)) (hlevel claims) refl
+
+    above : (hi s v x : Fraction) → v ≤ℚ hi -ℚ s → size (x -ℚ v) ≤ℚ s → x ≤ℚ hi
+    above hi s v x inside near = linear (hi ∷ s ∷ v ∷ x ∷ size (x -ℚ v) ∷ [])
+        (inside ⊞ near ⊞ le_size (x -ℚ v)) (hlevel claims) refl
+
 -- ends that hold from one degree on hold from a greater one on
 pub ends_from : (degree later width : ℕ) (exact : ℕ → Fraction) (ends : Printed) → degree ≤ later
     → AreEndsFor degree exact width ends → AreEndsFor later exact width ends
@@ -47,6 +68,13 @@ ends_from degree later width exact ends order h = record {
   ordered = h.ordered;
   narrow = h.narrow;
   small = h.small;
+}
+
+reserve_from : (product : Product) (degree later date state : ℕ) (ends : Printed) → degree ≤ later
+    → IsReserveAt product degree date state ends → IsReserveAt product later date state ends
+reserve_from product degree later date state ends order h = record {
+  holds = ends_from degree later _ _ ends order h.holds;
+  around = λ n x from near. h.around n x (omega (arith, order, from)) near;
 }
 
 -- a row that was written, with the row of an earlier date
@@ -58,7 +86,8 @@ date_kept product degree later date row written old new order above kept has sta
     let whole : (written + 1) * length product.states ≤ row * length product.states =
     mul-le-mul above (omega arith) in
     let same = kept place (omega (arith, whole)) in
-    subst (AreEndsFor later _ _) (sym same) (ends_from degree later _ _ (ends_of old place) order (has state inside))
+    subst (λ found. IsReserveAt product later date state found) (sym same)
+    (reserve_from product degree later date state (ends_of old place) order (has state inside))
 
 -- ---- one state more of a row
 
@@ -157,6 +186,20 @@ dates_more product every degree later s old new some order same_product same_deg
 }
 
 -- at issue all dates are written
+pub entry_for : (product : Product) (every degree : ℕ) (t : Table) (row state : ℕ) → t.degree ≡ degree
+    → t.states ≡ length product.states → HasDatesFrom product every 0 degree t.cells.items
+    → row ≤ product.months / every → state < length product.states
+    → IsReserveAt product t.degree (row * every) state (ends_at t row state)
+entry_for product every degree t row state is_degree is_states h last inside =
+    subst (λ d. IsReserveAt product d (row * every) state (ends_at t row state)) (sym is_degree)
+    (subst (λ n. IsReserveAt product degree (row * every) state (ends_of t.cells.items (row * n + state)))
+    (sym is_states) (h.written row (date_in_term row every product.months last) (omega arith) state inside))
+  where
+    date_in_term : (k step term : ℕ) → k ≤ term / step → k * step ≤ term
+    date_in_term k step term few =
+        let whole : k * step ≤ term / step * step = mul-le-mul few (omega arith) in
+        omega (arith, div-add-mod term step, whole)
+
 pub table_for : (product : Product) (every degree : ℕ) (t : Table) → 0 < every → IsAnsweredDegree degree
     → t.degree ≡ degree → t.every ≡ every → t.states ≡ length product.states
     → HasDatesFrom product every 0 degree t.cells.items → AreReserves product every t
@@ -166,15 +209,8 @@ table_for product every degree t some answered is_degree is_every is_states h = 
   states_is = is_states;
   count = h.room;
   ends = λ row state last inside.
-      subst (λ d. IsReserveAt product d (row * every) state (ends_at t row state)) (sym is_degree)
-      (subst (λ n. IsReserveAt product degree (row * every) state (ends_of t.cells.items (row * n + state)))
-      (sym is_states) (h.written row (date_in_term row every product.months last) (omega arith) state inside));
+      (entry_for product every degree t row state is_degree is_states h last inside).holds;
 }
-  where
-    date_in_term : (k step term : ℕ) → k ≤ term / step → k * step ≤ term
-    date_in_term k step term few =
-        let whole : k * step ≤ term / step * step = mul-le-mul few (omega arith) in
-        omega (arith, div-add-mod term step, whole)
 
 -- there is room for the row of a date
 pub room_for : (date term every states count long : ℕ) → 0 < every → states ≡ count → date ≤ term

@@ -8,6 +8,7 @@ use Rattle.model_specs.specs.Payments.{payment_plan}
 use Rattle.model_specs.specs.Ledgers.{radius, scale}
 use Rattle.model_specs.specs.Runs.{reserve}
 use Rattle.payment_plan.specs.declared.pattern.Which.TheVariants.{Benefits}
+use Rattle.thiele_backward.specs.Results.{HoldAround, spare_at}
 use Rattle.thiele_backward.specs.Sweeps.{BackwardSweep, at_term}
 
 -- a sweep of the payment plan from the term
@@ -19,12 +20,11 @@ pub record SweepsReserves (s : BackwardSweep) : Type 0 where
 abbrev pub ends_of : List Printed → ℕ → Printed
 ends_of cells place = slice_index_or cells place (record { lo = pos 0; hi = pos 0 })
 
--- ends hold the reserve at a date in a state, of each degree from one on
-abbrev pub IsReserveAt : Product → (degree date state : ℕ) → Printed → Type 0
-IsReserveAt product degree date state ends =
-    let plan = payment_plan product in
-    AreEndsFor degree (λ n. reserve product plan n date state)
-    (tolerance_first (radius product date) (scale product plan)) ends
+-- ends hold the reserve at a date in a state, of each degree from one on, and what is within a unit of it
+pub record IsReserveAt (product : Product) (degree date state : ℕ) (ends : Printed) : Type 0 where
+  pub holds : AreEndsFor degree (λ n. reserve product (payment_plan product) n date state)
+      (tolerance_first (radius product date) (scale product (payment_plan product))) ends
+  pub around : HoldAround degree (λ n. reserve product (payment_plan product) n date state) (spare_at product date) ends
 
 -- the ends of a row hold the reserves of a date in all states
 abbrev pub HasDate : Product → (degree date row : ℕ) → List Printed → Type 0

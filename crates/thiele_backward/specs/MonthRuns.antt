@@ -48,13 +48,13 @@ pub record HasSome (Says : Vector → Type 0) : Type 0 where
   pub values : Vector
   pub has : Says values
 
--- after some cells of a month, with steps of up to a degree: each run is within the radius ledger of the numbers, and
--- after the first cell it has a unit to spare
+-- after some cells of a month, with steps of up to a degree: each run is within the radius ledger of the numbers
 abbrev pub StaysNear : Product → Plan → (month degree done : ℕ) → (old new : List ℤ) → Type 0
 StaysNear product plan month degree done old new =
     (n : ℕ) (v : Vector) → degree ≤ n → IsNearLumped product plan month old v
     → AreWithin product plan (radius_in product month done) (month_values product plan n month v done) new
 
+-- the same with a unit to spare, as it is after the first cell and from then on
 abbrev pub StaysNearWithSpare : Product → Plan → (month degree done : ℕ) → (old new : List ℤ) → Type 0
 StaysNearWithSpare product plan month degree done old new =
     (n : ℕ) (v : Vector) → degree ≤ n → IsNearLumped product plan month old v

@@ -3,7 +3,7 @@
 ghost use Rattle.std.specs.Prelude.{◌≡◌, ℕ, ◌+◌, ◌*◌, ◌/◌, ◌^◌, ◌<◌, ◌≤◌, IfOk, OnErr, length};
 ghost use Rattle.named_numbers.specs.Numbers.{cells_of_month, least_degree};
 ghost use Rattle.model_specs.specs.Payments.{payment_plan};
-ghost use Rattle.thiele_backward.specs.Results.{AreReserves, AreConstantMonths};
+ghost use Rattle.thiele_backward.specs.Results.{AreReserves, HoldAroundReserves, AreConstantMonths};
 ghost use Rattle.thiele_backward.specs.Dates.{SweepsReserves, HasDate, KeepsRowsFrom};
 
 use crate::month::LEAST_DEGREE;
@@ -58,6 +58,9 @@ pub fn reserves<L: Ledger>(
     requires every { 0 < every }
     requires count { steps.old + cells_of_month * adm.now.months < 2 ^ 63 }
     ensures reserves { IfOk result (AreReserves adm.now every) }
+
+    // Before the term the ends leave a unit of 2^-64 free, at the plan's scale.
+    ensures around { IfOk result (HoldAroundReserves adm.now every) }
     ensures constant { AreConstantMonths adm.now (payment_plan adm.now)
         → IfOk result (λ table. table.degree ≡ least_degree) }
     ensures count { IfOk result (λ table. steps.new ≡ steps.old + cells_of_month * adm.now.months) }

@@ -1,6 +1,6 @@
 //! The value at issue.
 
-ghost use Rattle.std.specs.Prelude.{◌≡◌, ◌+◌, ◌*◌, ◌^◌, ◌<◌, ◌≤◌, IfOk, OnErr};
+ghost use Rattle.std.specs.Prelude.{◌≡◌, ◌+◌, ◌*◌, ◌^◌, ◌<◌, IfOk, OnErr};
 ghost use Rattle.named_numbers.specs.Numbers.{cells_of_month, least_degree};
 ghost use Rattle.rate_bounds.specs.MonthPay.{plan_named};
 ghost use Rattle.thiele_backward.specs.Results.{IsValueAtIssue, AreConstantMonths};

@@ -1,4 +1,4 @@
-use Rattle.std.proofs.Common.{◌≡◌, ◌/◌, sym, subst, ◌∙◌}
+use Rattle.std.proofs.Common.{sym, subst, ◌∙◌}
 use Rattle.thiele_backward.specs.Dates.{HasDate}
 use Rattle.thiele_backward.proofs.WrittenDates.{row_of_date, no_rest}
 use Rattle.thiele_backward.proofs.reserve_table.keep_date.Goals as goal

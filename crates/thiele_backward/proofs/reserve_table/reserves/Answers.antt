@@ -1,4 +1,4 @@
-use Rattle.std.proofs.Common.{◌≡◌, ℕ, ◌+◌, ◌-◌, ◌*◌, ◌/◌, ◌<◌, ◌≤◌, max, length, ap, sym, subst, ◌∙◌, refl, rules, arith}
+use Rattle.std.proofs.Common.{◌≡◌, ◌+◌, ◌-◌, ◌*◌, ◌/◌, ◌<◌, length, ap, sym, subst, ◌∙◌, refl, rules, arith}
 use Rattle.std.proofs.lemmas.List.{with_items_is}
 use Rattle.named_numbers.specs.Numbers.{least_degree}
 use Rattle.payment_plan.specs.declared.pattern.Which.TheVariants.{Benefits}
@@ -6,6 +6,7 @@ use Rattle.thiele_backward.specs.Dates.{KeepsRowsFrom}
 use Rattle.thiele_backward.specs.Sweeps.{BackwardSweep, month_earlier}
 use Rattle.thiele_backward.proofs.SweptTerms.{IsSwept, swept_none, swept_more}
 use Rattle.thiele_backward.proofs.WrittenDates.{HasDatesFrom, dates_at_term, dates_more, room_for, table_for}
+use Rattle.thiele_backward.proofs.WrittenDates.{entry_for}
 use Rattle.thiele_backward.proofs.reserve_table.reserves.Goals as goal
 
 pub loop-month-init : goal.loop-month-init
@@ -86,3 +87,20 @@ returns-clause-reserves g c =
     omega (arith, h.swept.left, c.loop-month-test.false, months) in
     table_for c.args.adm.now c.args.every c.loop-month.degree _ c.requires.every h.swept.answered refl refl states
     (subst (λ n. HasDatesFrom c.args.adm.now c.args.every n c.loop-month.degree c.loop-month.cells.items) done h.dates)
+
+pub returns-clause-around : goal.returns-clause-around
+returns-clause-around g c row state last inside =
+    let h = c.loop-month.invariant in
+    let months : c.months-months.result ≡ c.args.adm.now.months =
+    c.months-months.ensures.value ∙ ap (λ product. product.months) c.product-2.ensures.product in
+    let states : c.states-states.result ≡ length c.args.adm.now.states = search rules in
+    let done : c.loop-month.sweep.months_left ≡ 0 =
+    omega (arith, h.swept.left, c.loop-month-test.false, months) in
+    (entry_for c.args.adm.now c.args.every c.loop-month.degree (record {
+      degree = c.loop-month.degree;
+      every = c.args.every;
+      states = c.states-states.result;
+      cells = c.loop-month.cells;
+    }) row state refl states
+    (subst (λ n. HasDatesFrom c.args.adm.now c.args.every n c.loop-month.degree c.loop-month.cells.items) done h.dates)
+    last inside).around

@@ -1,9 +1,4 @@
-use Rattle.std.proofs.Common.{◌≡◌, ℕ, ◌+◌, ◌*◌, ◌<◌, length}
-use Rattle.frac_laws.specs.Ledger.{tolerance_first}
-use Rattle.fixed_interval.specs.Tables.{AreEndsFor}
-use Rattle.model_specs.specs.Payments.{payment_plan}
-use Rattle.model_specs.specs.Ledgers.{radius, scale}
-use Rattle.model_specs.specs.Runs.{reserve}
+use Rattle.std.proofs.Common.{ℕ, ◌+◌, ◌*◌, ◌<◌}
 use Rattle.thiele_backward.specs.Dates.{IsReserveAt, KeepsRowsFrom, ends_of}
 use Rattle.thiele_backward.proofs.reserve_table.write_date.Given as goal
 

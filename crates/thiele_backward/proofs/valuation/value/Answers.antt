@@ -1,6 +1,6 @@
-use Rattle.std.proofs.Common.{◌≡◌, ℕ, ◌+◌, ◌<◌, max, ap, sym, subst, ◌∙◌, refl, arith}
+use Rattle.std.proofs.Common.{◌≡◌, ◌+◌, ◌<◌, ap, sym, subst, ◌∙◌, refl, arith}
 use Rattle.named_numbers.specs.Numbers.{least_degree}
-use Rattle.thiele_backward.specs.Sweeps.{BackwardSweep, at_term, month_earlier}
+use Rattle.thiele_backward.specs.Sweeps.{at_term, month_earlier}
 use Rattle.thiele_backward.proofs.SweptTerms.{IsSwept, swept_none, swept_more, valued_for}
 use Rattle.thiele_backward.proofs.valuation.value.Goals as goal
 
