@@ -1,0 +1,4 @@
+pub mod Dates
+pub mod MonthRuns
+pub mod Results
+pub mod Sweeps
