@@ -1,0 +1,2 @@
+pub mod Premiums
+pub mod Quotients
