@@ -1,0 +1,6 @@
+//! Reserves that hold whichever grid they are taken on: cells of a 32nd of a month, or whole months.
+#![tactic(auto)]
+
+mod grid_reserves;
+
+pub use grid_reserves::month_reserves;

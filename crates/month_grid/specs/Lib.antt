@@ -1,0 +1,2 @@
+pub mod CellPolynomials
+pub mod MonthGridLaws

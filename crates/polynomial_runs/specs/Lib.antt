@@ -1,0 +1,3 @@
+pub mod FarDecay
+pub mod MonthPolynomials
+pub mod PolynomialSystems
