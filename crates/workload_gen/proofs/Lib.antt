@@ -1,0 +1,15 @@
+pub mod CurveRules
+pub mod Depths
+pub mod DrawSteps
+pub mod MonthRules
+pub mod Numerators
+pub mod Passing
+pub mod PaymentRules
+pub mod PlanBound
+pub mod Rates
+pub mod SeedNames
+pub mod TableViews
+pub mod TopTable
+pub mod TreeRules
+pub mod Valid
+pub mod YearlyPieces
