@@ -1,5 +1,8 @@
-pub mod Parts
-pub mod RightRows
-pub mod RowLines
-pub mod SmallRadii
-pub mod TwoLines
+mod Parts
+mod Reported
+mod RightRows
+mod RowLines
+mod Shapes
+mod SmallRadii
+mod TablePlaces
+mod TwoLines

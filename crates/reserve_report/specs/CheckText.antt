@@ -4,7 +4,7 @@ use Rattle.frac_laws.specs.Ledger.{tolerance_first, tolerance_second, tolerance_
 use Rattle.model_specs.specs.Product.{Product}
 use Rattle.model_specs.specs.Payments.{payment_plan, pattern_plan}
 use Rattle.model_specs.specs.Ledgers.{bound1024, scale, radius, radius_forward, second_radius}
-use Rattle.reserve_report.specs.Decimals.{millionths_of_size}
+use Rattle.decimal_out.specs.Millionths.{millionths_of_size}
 
 -- check NAME
 abbrev pub name_line : Product → List ℕ
@@ -25,10 +25,11 @@ scale_line p =
     codes "scale " ++ decimal (scale p (payment_plan p)) ++ codes " bound " ++ decimal (bound1024 p (payment_plan p))
     ++ codes "\n"
 
--- a line of a word and a number in millionths, and one of a word and a whole number
+-- a line of a word and a number in millionths
 abbrev pub width_line : List ℕ → ℕ → List ℕ
 width_line word width = word ++ millionths_of_size width ++ codes "\n"
 
+-- a line of a word and a whole number
 abbrev pub whole_line : List ℕ → ℕ → List ℕ
 whole_line word width = word ++ decimal width ++ codes "\n"
 

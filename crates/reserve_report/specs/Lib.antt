@@ -1,5 +1,4 @@
 pub mod CheckText
-pub mod Decimals
 pub mod Limits
 pub mod ReportText
 pub mod Reports

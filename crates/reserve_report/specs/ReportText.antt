@@ -1,44 +1,41 @@
 -- The text of a report, this product's own. Each line ends with a line feed, and fields are parted by one space.
-use Rattle.std.specs.Prelude.{ℕ, List, [], ◌∷◌, ◌++◌, codes, decimal, length, slice_index_or}
+use Rattle.std.specs.Prelude.{ℕ, List, [], ◌∷◌, ◌++◌, pos, codes, decimal, length, slice_index_or}
 use Rattle.model_specs.specs.Product.{Product}
+use Rattle.report_columns.specs.declared.note.Note.{Note}
+use Rattle.report_columns.specs.Lines.{word_of, in_format}
 use Rattle.reserve_report.specs.declared.report.Kind.{Kind}
 use Rattle.reserve_report.specs.declared.report.Kind.TheVariants as kind
-use Rattle.reserve_report.specs.declared.report.What.{What}
-use Rattle.reserve_report.specs.declared.report.What.TheVariants as what
-use Rattle.reserve_report.specs.declared.report.Row.{Row}
 use Rattle.reserve_report.specs.declared.report.Report.{Report}
-use Rattle.reserve_report.specs.Decimals.{millionths, millionths_of_size}
 
 -- the word of a kind of report
 abbrev pub kind_word : Kind → List ℕ
 kind_word kind.Value = codes "value"
 kind_word kind.Reserves = codes "reserves"
-
--- the word of what a row says
-abbrev pub what_word : What → List ℕ
-what_word what.Value = codes "value"
-what_word what.Reserve = codes "reserve"
+kind_word kind.Occupancy = codes "occupancy"
+kind_word kind.Moments = codes "moments"
+kind_word kind.Premium = codes "premium"
 
 -- the name of a state
 abbrev pub state_name : Product → ℕ → List ℕ
 state_name p state = slice_index_or p.states state []
 
 -- MONTH STATE WHAT, and a space
-abbrev pub row_subject : Product → Row → List ℕ
+abbrev pub row_subject : Product → Note → List ℕ
 row_subject p row =
-    decimal row.month ++ codes " " ++ state_name p row.state ++ codes " " ++ what_word row.what ++ codes " "
+    decimal row.month ++ codes " " ++ state_name p row.state ++ codes " " ++ word_of row.what ++ codes " "
 
 -- LO HI TOL, and the line's end
-abbrev pub row_interval : Row → ℕ → List ℕ
+abbrev pub row_interval : Note → ℕ → List ℕ
 row_interval row tolerance =
-    millionths row.lo ++ codes " " ++ millionths row.hi ++ codes " " ++ millionths_of_size tolerance ++ codes "\n"
+    in_format row.what row.lo ++ codes " " ++ in_format row.what row.hi ++ codes " "
+    ++ in_format row.what (pos tolerance) ++ codes "\n"
 
 -- MONTH STATE WHAT LO HI TOL
-abbrev pub row_line : Product → Row → ℕ → List ℕ
+abbrev pub row_line : Product → Note → ℕ → List ℕ
 row_line p row tolerance = row_subject p row ++ row_interval row tolerance
 
 -- a line for each row, with its tolerance
-abbrev pub row_lines : Product → List Row → List ℕ → List ℕ
+abbrev pub row_lines : Product → List Note → List ℕ → List ℕ
 row_lines p [] tolerances = []
 row_lines p (row ∷ rows) [] = []
 row_lines p (row ∷ rows) (tolerance ∷ tolerances) = row_line p row tolerance ++ row_lines p rows tolerances

@@ -2,17 +2,17 @@
 #![tactic(auto)]
 
 mod check_text;
-mod decimal;
 mod limits;
 mod report;
 mod report_text;
 mod results;
+mod table_rows;
+mod tolerances;
 
 pub use check_text::check_bytes;
-pub use decimal::push_decimal;
-pub use report::{Kind, Report, Row, What};
+pub use report::{Kind, Report};
 pub use report_text::report_bytes;
-pub use results::{from_table, from_value};
+pub use results::{from_moments, from_premium, from_table, from_value};
 
 #[cfg(test)]
 mod tests;

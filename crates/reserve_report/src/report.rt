@@ -1,5 +1,7 @@
 // A report as numbers, before it is text.
 
+use report_columns::Note;
+
 /// The command that a report answers.
 #[derive(Clone, Copy, Debug, PartialEq, Eq)]
 pub enum Kind {
@@ -7,29 +9,12 @@ pub enum Kind {
     Value,
     /// The reserves of all states, by date and then by state, each without the lump of its date.
     Reserves,
-}
-
-/// What a row is about.
-#[derive(Clone, Copy, Debug, PartialEq, Eq)]
-pub enum What {
-    /// The value at issue, in millionths of a minor unit.
-    Value,
-    /// The reserve at a date in a state, in millionths of a minor unit.
-    Reserve,
-}
-
-/// One printed interval, both ends included.
-#[derive(Clone, Copy, Debug, PartialEq, Eq)]
-pub struct Row {
-    /// Months from issue.
-    pub month: u32,
-    /// The state's index in the file's list of states.
-    pub state: u32,
-    pub what: What,
-    /// In millionths of a minor unit, rounded down.
-    pub lo: i128,
-    /// In millionths of a minor unit, rounded up.
-    pub hi: i128,
+    /// The probabilities of all states, by date and then by state, from the start state at issue.
+    Occupancy,
+    /// First moment, second moment and variance of the payments after each date, by date and then by state.
+    Moments,
+    /// The value of the benefits, that of a premium of 1, and the equivalence premium.
+    Premium,
 }
 
 /// A report: the greatest degree that its runs used, the scale of the ledgers, and a tolerance for each row.
@@ -37,8 +22,9 @@ pub struct Row {
 pub struct Report {
     pub kind: Kind,
     pub degree: u8,
+    /// The scale of the payment plan, and 0 where probabilities are reported.
     pub scale: u8,
     /// In the unit of the rows, in the rows' order.
     pub tolerance: Vec<u128>,
-    pub rows: Vec<Row>,
+    pub rows: Vec<Note>,
 }

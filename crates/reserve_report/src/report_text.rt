@@ -1,11 +1,14 @@
 // The text of a report.
-ghost use Rattle.std.specs.Prelude.{◌≡◌, ◌++◌, ◌<◌, All, length, OnOk, IfOk};
-ghost use Rattle.reserve_report.specs.ReportText.{kind_word, what_word, row_subject, row_interval, row_line};
+ghost use Rattle.std.specs.Prelude.{◌≡◌, ◌++◌, ◌<◌, All, length, pos, OnOk, IfOk};
+ghost use Rattle.report_columns.specs.Lines.{in_format};
+ghost use Rattle.reserve_report.specs.Reports.{HasText};
+ghost use Rattle.reserve_report.specs.ReportText.{kind_word, row_subject, row_interval, row_line};
 ghost use Rattle.reserve_report.specs.ReportText.{row_lines, head_lines, report_text};
 
-use crate::decimal::{push_decimal, push_millionths, push_size};
-use crate::report::{Kind, Report, Row, What};
+use crate::report::{Kind, Report};
+use decimal_out::{push_size, push_whole};
 use product_model::Product;
+use report_columns::{Note, What, push_number};
 use std::alloc::{AllocError, Global};
 
 impl Kind {
@@ -15,32 +18,19 @@ impl Kind {
         match self {
             Kind::Value => b"value",
             Kind::Reserves => b"reserves",
-        }
-    }
-}
-
-impl What {
-    fn word(self) -> &'static [u8]
-        ensures { result.now ≡ what_word self }
-    {
-        match self {
-            What::Value => b"value",
-            What::Reserve => b"reserve",
+            Kind::Occupancy => b"occupancy",
+            Kind::Moments => b"moments",
+            Kind::Premium => b"premium",
         }
     }
 }
 
 /// Appends what a row is about.
-fn push_subject(
-    alloc: Global,
-    out: &mut Vec<u8>,
-    product: &Product,
-    row: &Row,
-) -> Result<(), AllocError>
+fn push_subject(out: &mut Vec<u8>, product: &Product, row: &Note) -> Result<(), AllocError>
     requires { row.now.state < length product.now.states }
     ensures { OnOk result (out.new.items ≡ out.old.items ++ row_subject product.now row.now) }
 {
-    push_decimal(alloc, out, u128::from(row.month))?;
+    push_whole(out, row.month)?;
     out.push(b' ')?;
     out.extend_from_slice(product.graph().name(row.state as usize))?;
     out.push(b' ')?;
@@ -49,46 +39,45 @@ fn push_subject(
     Ok(())
 }
 
+/// Appends a tolerance in the format of a row.
+fn push_tolerance(out: &mut Vec<u8>, what: What, tolerance: u128) -> Result<(), AllocError>
+    ensures { OnOk result (out.new.items ≡ out.old.items ++ in_format what (pos tolerance)) }
+{
+    match what {
+        What::Second | What::Variance => push_whole(out, tolerance),
+        _ => push_size(out, tolerance),
+    }
+}
+
 /// Appends the ends and the tolerance of a row.
-fn push_interval(
-    alloc: Global,
-    out: &mut Vec<u8>,
-    row: &Row,
-    tolerance: u128,
-) -> Result<(), AllocError>
+fn push_interval(out: &mut Vec<u8>, row: &Note, tolerance: u128) -> Result<(), AllocError>
     ensures { OnOk result (out.new.items ≡ out.old.items ++ row_interval row.now tolerance) }
 {
-    push_millionths(alloc, out, row.lo)?;
+    push_number(out, row.what, row.lo)?;
     out.push(b' ')?;
-    push_millionths(alloc, out, row.hi)?;
+    push_number(out, row.what, row.hi)?;
     out.push(b' ')?;
-    push_size(alloc, out, tolerance)?;
+    push_tolerance(out, row.what, tolerance)?;
     out.push(b'\n')?;
     Ok(())
 }
 
 /// Appends the line of a row.
 fn push_row(
-    alloc: Global,
     out: &mut Vec<u8>,
     product: &Product,
-    row: &Row,
+    row: &Note,
     tolerance: u128,
 ) -> Result<(), AllocError>
     requires { row.now.state < length product.now.states }
     ensures { OnOk result (out.new.items ≡ out.old.items ++ row_line product.now row.now tolerance) }
 {
-    push_subject(alloc, out, product, row)?;
-    push_interval(alloc, out, row, tolerance)
+    push_subject(out, product, row)?;
+    push_interval(out, row, tolerance)
 }
 
 /// Appends the first two lines.
-fn push_head(
-    alloc: Global,
-    out: &mut Vec<u8>,
-    product: &Product,
-    report: &Report,
-) -> Result<(), AllocError>
+fn push_head(out: &mut Vec<u8>, product: &Product, report: &Report) -> Result<(), AllocError>
     ensures { OnOk result (out.new.items ≡ out.old.items ++ head_lines product.now report.now) }
 {
     out.extend_from_slice(b"report ")?;
@@ -96,19 +85,18 @@ fn push_head(
     out.push(b' ')?;
     out.extend_from_slice(product.name())?;
     out.extend_from_slice(b"\ndegree ")?;
-    push_decimal(alloc, out, u128::from(report.degree))?;
+    push_whole(out, report.degree)?;
     out.extend_from_slice(b" scale ")?;
-    push_decimal(alloc, out, u128::from(report.scale))?;
+    push_whole(out, report.scale)?;
     out.push(b'\n')?;
     Ok(())
 }
 
 /// Appends the lines of the rows, each with its tolerance.
 fn push_rows(
-    alloc: Global,
     out: &mut Vec<u8>,
     product: &Product,
-    rows: &[Row],
+    rows: &[Note],
     tolerances: &[u128],
 ) -> Result<(), AllocError>
     requires same { length rows.now ≡ length tolerances.now }
@@ -116,7 +104,7 @@ fn push_rows(
     ensures { OnOk result (out.new.items ≡ out.old.items ++ row_lines product.now rows.now tolerances.now) }
 {
     for i in 0..rows.len() {
-        push_row(alloc, out, product, &rows[i], tolerances[i])?;
+        push_row(out, product, &rows[i], tolerances[i])?;
     }
     Ok(())
 }
@@ -127,15 +115,14 @@ pub fn report_bytes(
     product: &Product,
     report: &Report,
 ) -> Result<Vec<u8>, AllocError>
-    requires same { length report.now.rows.items ≡ length report.now.tolerance.items }
-    requires states { All (λ row. row.state < length product.now.states) report.now.rows.items }
+    requires { HasText product.now report.now }
     ensures { IfOk result (λ text. text.items ≡ report_text product.now report.now) }
 {
     let mut text = Vec::new(alloc);
-    push_head(alloc, &mut text, product, report)?;
-    push_rows(alloc, &mut text, product, &report.rows, &report.tolerance)?;
+    push_head(&mut text, product, report)?;
+    push_rows(&mut text, product, &report.rows, &report.tolerance)?;
     text.extend_from_slice(b"end ")?;
-    push_decimal(alloc, &mut text, report.rows.len() as u128)?;
+    push_whole(&mut text, report.rows.len())?;
     text.push(b'\n')?;
     Ok(text)
 }

@@ -1,98 +1,73 @@
 //! From results to reports.
-ghost use Rattle.std.specs.Prelude.{◌≡◌, ◌<◌, ◌≤◌, All, IfOk, length, map};
-ghost use Rattle.model_specs.specs.Rows.{tolerance};
-ghost use Rattle.model_specs.specs.Whole.{list_of};
-ghost use Rattle.reserve_report.specs.Reports.{IsReport, row_of, what_of};
-ghost use Rattle.reserve_report.specs.Results.{IsValueOf, IsTableOf};
-ghost use Rattle.reserve_report.specs.TableRows.{HasTable, IsInTerm, row_at};
+ghost use Rattle.std.specs.Prelude.{◌≡◌, ◌<◌, IfOk};
+ghost use Rattle.model_specs.specs.RecordRules.{IsWellFormed};
+ghost use Rattle.reserve_report.specs.Reports.{HasText, IsReport, scale_in, what_in};
+ghost use Rattle.reserve_report.specs.Results.{AreMomentsOf, IsPremiumOf, IsTableOf, IsValueOf, TellsPremium};
+ghost use Rattle.reserve_report.specs.TableRows.{issue_row_of};
 
-use crate::report::{Kind, Report, Row, What};
-use fixed_interval::{Table, Valued};
-use ledger_bounds::tolerance_first;
+use crate::report::{Kind, Report};
+use crate::table_rows::{moment_rows, rows_of};
+use crate::tolerances::tolerances_of;
+use fixed_interval::{MomentTable, PremiumTable, Printed, Table, Valued};
 use payment_plan::Which;
 use rate_bounds::Admitted;
+use report_columns::{Note, What};
 use std::alloc::{AllocError, Global};
 
 impl Kind {
-    // What its rows are about.
+    // What the rows of its table are about, where it has one.
     fn what(self) -> What
-        ensures { result ≡ what_of self }
+        ensures { result ≡ what_in self }
     {
         match self {
-            Kind::Value => What::Value,
-            Kind::Reserves => What::Reserve,
+            Kind::Occupancy => What::Occupancy,
+            _ => What::Reserve,
+        }
+    }
+
+    // The scale that it prints.
+    fn scale(self, adm: &Admitted) -> u8
+        ensures { result ≡ scale_in adm.now self }
+    {
+        match self {
+            Kind::Occupancy => 0,
+            _ => adm.scale(Which::Benefits) as u8,
         }
     }
 }
 
-// How far the ends of a row may lie apart, in the unit of the row.
-fn tolerance_of(adm: &Admitted, row: &Row) -> u128
-    requires { IsInTerm adm.now row.now }
-    ensures { result ≡ tolerance adm.now (row_of row.now) }
+// A row at issue, about the start state.
+fn issue_row(adm: &Admitted, what: What, ends: &Printed) -> Note
+    ensures row { result ≡ issue_row_of adm.now what ends.now }
+    ensures lawful { IsWellFormed adm.now }
 {
-    let scale = adm.scale(Which::Benefits);
-    match row.what {
-        What::Value => tolerance_first(adm.radius(0), scale),
-        What::Reserve => tolerance_first(adm.radius(row.month), scale),
+    Note {
+        month: 0,
+        state: adm.product().start() as u32,
+        what,
+        lo: ends.lo,
+        hi: ends.hi,
     }
-}
-
-// The tolerances of rows, in their order.
-fn tolerances_of(alloc: Global, adm: &Admitted, rows: &[Row]) -> Result<Vec<u128>, AllocError>
-    requires { All (IsInTerm adm.now) rows.now }
-    ensures { IfOk result (λ tolerances. tolerances.items ≡ map (λ row. tolerance adm.now (row_of row)) rows.now) }
-{
-    let mut tolerances = Vec::new(alloc);
-    for row in rows {
-        tolerances.push(tolerance_of(adm, row))?;
-    }
-    Ok(tolerances)
-}
-
-// The rows of a table: by date, and then by state.
-fn rows_of(alloc: Global, what: What, t: &Table) -> Result<Vec<Row>, AllocError>
-    requires { HasTable t.now }
-    ensures { IfOk result (λ rows. rows.items ≡ list_of (length t.now.cells.items) (row_at what t.now)) }
-{
-    let mut rows = Vec::new(alloc);
-    for (place, ends) in t.cells.iter().enumerate() {
-        rows.push(Row {
-            month: (place / t.states) as u32 * t.every,
-            state: (place % t.states) as u32,
-            what,
-            lo: ends.lo,
-            hi: ends.hi,
-        })?;
-    }
-    Ok(rows)
 }
 
 /// The report of the value at issue in the start state.
 pub fn from_value(alloc: Global, adm: &Admitted, v: &Valued) -> Result<Report, AllocError>
     requires { IsValueOf adm.now v.now }
     ensures report { IfOk result (IsReport adm.now Kind.Value 1) }
-    ensures same { IfOk result (λ report. length report.rows.items ≡ length report.tolerance.items) }
-    ensures states { IfOk result (λ report. All (λ row. row.state < length adm.now.states) report.rows.items) }
+    ensures text { IfOk result (HasText adm.now) }
 {
-    let ends = v.interval.printed();
-    let row = Row {
-        month: 0,
-        state: adm.product().start() as u32,
-        what: What::Value,
-        lo: ends.lo,
-        hi: ends.hi,
-    };
+    let row = issue_row(adm, What::Value, &v.interval.printed());
     let rows = vec![in alloc; row]?;
     Ok(Report {
         kind: Kind::Value,
         degree: v.degree,
-        scale: adm.scale(Which::Benefits) as u8,
+        scale: Kind::Value.scale(adm),
         tolerance: tolerances_of(alloc, adm, &rows)?,
         rows,
     })
 }
 
-/// The report of reserves at the dates of a table.
+/// The report of a table: of reserves or of probabilities, by date and then by state.
 pub fn from_table(
     alloc: Global,
     adm: &Admitted,
@@ -102,15 +77,53 @@ pub fn from_table(
     requires every { 0 < t.now.every }
     requires table { IsTableOf adm.now kind t.now }
     ensures report { IfOk result (IsReport adm.now kind t.now.every) }
-    ensures same { IfOk result (λ report. length report.rows.items ≡ length report.tolerance.items) }
-    ensures states { IfOk result (λ report. All (λ row. row.state < length adm.now.states) report.rows.items) }
+    ensures text { IfOk result (HasText adm.now) }
 {
     let _months = adm.product().months();
     let rows = rows_of(alloc, kind.what(), t)?;
     Ok(Report {
         kind,
         degree: t.degree,
-        scale: adm.scale(Which::Benefits) as u8,
+        scale: kind.scale(adm),
+        tolerance: tolerances_of(alloc, adm, &rows)?,
+        rows,
+    })
+}
+
+/// The report of moments: the first moment, the second moment and the variance of each date and state.
+pub fn from_moments(alloc: Global, adm: &Admitted, t: &MomentTable) -> Result<Report, AllocError>
+    requires every { 0 < t.now.first.every }
+    requires moments { AreMomentsOf adm.now t.now }
+    ensures report { IfOk result (IsReport adm.now Kind.Moments t.now.first.every) }
+    ensures text { IfOk result (HasText adm.now) }
+{
+    let _months = adm.product().months();
+    let rows = moment_rows(alloc, t)?;
+    Ok(Report {
+        kind: Kind::Moments,
+        degree: t.first.degree,
+        scale: Kind::Moments.scale(adm),
+        tolerance: tolerances_of(alloc, adm, &rows)?,
+        rows,
+    })
+}
+
+/// The report of a premium: the values of the benefits and of the premium pattern, and the equivalence premium.
+pub fn from_premium(alloc: Global, adm: &Admitted, t: &PremiumTable) -> Result<Report, AllocError>
+    requires { IsPremiumOf adm.now t.now }
+    ensures report { IfOk result (IsReport adm.now Kind.Premium 1) }
+    ensures premium { IfOk result (TellsPremium t.now) }
+    ensures text { IfOk result (HasText adm.now) }
+{
+    let rows = vec![in alloc;
+        issue_row(adm, What::Benefits, &t.benefits),
+        issue_row(adm, What::Pattern, &t.pattern),
+        issue_row(adm, What::Premium, &t.premium),
+    ]?;
+    Ok(Report {
+        kind: Kind::Premium,
+        degree: t.degree,
+        scale: Kind::Premium.scale(adm),
         tolerance: tolerances_of(alloc, adm, &rows)?,
         rows,
     })

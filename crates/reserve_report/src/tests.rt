@@ -1,12 +1,13 @@
-use crate::{Kind, Report, Row, What, push_decimal, report_bytes};
+use crate::{Kind, Report, report_bytes};
 use curve_pieces::{Curve, Piece};
 use payment_plan::{Lump, PatternRule, Plan};
 use product_model::Product;
+use report_columns::{Note, What};
 use state_graph::Graph;
 use std::alloc::Global;
 use std::test::Fail;
 
-const AT_ISSUE: Row = Row {
+const AT_ISSUE: Note = Note {
     month: 0,
     state: 1,
     what: What::Value,
@@ -14,7 +15,7 @@ const AT_ISSUE: Row = Row {
     hi: 2,
 };
 
-const LATER: Row = Row {
+const LATER: Note = Note {
     month: 12,
     state: 0,
     what: What::Value,
@@ -22,20 +23,44 @@ const LATER: Row = Row {
     hi: 10_000_000,
 };
 
-const RESERVES: [Row; 2] = [
-    Row {
+const RESERVES: [Note; 2] = [
+    Note {
         month: 0,
         state: 0,
         what: What::Reserve,
         lo: 0,
         hi: 0,
     },
-    Row {
+    Note {
         month: 12,
         state: 1,
         what: What::Reserve,
         lo: 1,
         hi: 999_999,
+    },
+];
+
+const MOMENTS: [Note; 3] = [
+    Note {
+        month: 0,
+        state: 1,
+        what: What::First,
+        lo: 100_000_000,
+        hi: 100_000_000,
+    },
+    Note {
+        month: 0,
+        state: 1,
+        what: What::Second,
+        lo: 9_999,
+        hi: 10_001,
+    },
+    Note {
+        month: 0,
+        state: 1,
+        what: What::Variance,
+        lo: -1,
+        hi: 2,
     },
 ];
 
@@ -128,9 +153,24 @@ fn reserves_are_written_by_date_and_state(rt: HostRuntime) -> Result<(), Fail> {
 }
 
 #[test]
-fn a_number_is_appended(rt: HostRuntime) -> Result<(), Fail> {
-    let mut text = b"end ".to_vec(rt.alloc())?;
-    push_decimal(rt.alloc(), &mut text, 1200)?;
-    assert_eq!(rt; text.as_slice(), b"end 1200".as_slice());
+fn moments_are_written_in_their_units(rt: HostRuntime) -> Result<(), Fail> {
+    let alloc = rt.alloc();
+    let product = endowment(alloc)?;
+    assert_eq!(rt; product.graph().states(), 2);
+    let report = Report {
+        kind: Kind::Moments,
+        degree: 9,
+        scale: 7,
+        tolerance: [2, 3, 4].to_vec(alloc)?,
+        rows: MOMENTS.to_vec(alloc)?,
+    };
+    let text = report_bytes(alloc, &product, &report)?;
+    let wanted = b"report moments endowment\n\
+        degree 9 scale 7\n\
+        0 off first 100.000000 100.000000 0.000002\n\
+        0 off second 9999 10001 3\n\
+        0 off variance -1 2 4\n\
+        end 3\n";
+    assert_eq!(rt; text.as_slice(), wanted.as_slice());
     Ok(())
 }

@@ -1,4 +1,4 @@
-use Rattle.std.proofs.Common.{◌≡◌, ap, ◌∙◌}
+use Rattle.std.proofs.Common.{ap, ◌∙◌}
 use Rattle.model_specs.specs.Ledgers.{radius_forward}
 use Rattle.reserve_report.proofs.SmallRadii.{below_39, below_41}
 use Rattle.reserve_report.proofs.check_text.limits_of.Goals as goal

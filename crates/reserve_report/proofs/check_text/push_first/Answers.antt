@@ -13,7 +13,9 @@ returns c =
     cc (c.tolerance_first-value.ensures.value, c.requires.radius_is, c.requires.scale_is) in
     let occupancy : c.tolerance_first-occupancy.result ≡ tolerance_first (radius_forward p p.months) 0 =
     cc (c.tolerance_first-occupancy.ensures.value, c.requires.forward_is) in
-    two_lines c.args.out.now.items (width_line (codes "tolerance value ") (tolerance_first (radius p 0) (scale p (payment_plan p))))
+    two_lines c.args.out.now.items (width_line (codes "tolerance value ")
+    (tolerance_first (radius p 0) (scale p (payment_plan p))))
     (width_line (codes "tolerance occupancy ") (tolerance_first (radius_forward p p.months) 0)) _ _
     (c.in_ok-push_width_line.ensures ∙ ap (λ v. c.args.out.now.items ++ width_line (codes "tolerance value ") v) value)
-    (c.in_ok-push_width_line-2.ensures ∙ ap (λ v. c.push_width_line.new.out.items ++ width_line (codes "tolerance occupancy ") v) occupancy)
+    (c.in_ok-push_width_line-2.ensures ∙ ap (λ v. c.push_width_line.new.out.items ++ width_line
+    (codes "tolerance occupancy ") v) occupancy)

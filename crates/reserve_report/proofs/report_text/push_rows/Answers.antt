@@ -1,12 +1,12 @@
 use Rattle.std.proofs.Common.{◌++◌, ◌∙◌, ap, sym, pos, append_assoc, get_or}
-use Rattle.reserve_report.specs.declared.report.Row.{Row}
-use Rattle.reserve_report.specs.declared.report.What.TheVariants.{Value}
+use Rattle.report_columns.specs.declared.note.Note.{Note}
+use Rattle.report_columns.specs.declared.note.What.TheVariants.{Value}
 use Rattle.reserve_report.specs.ReportText.{row_line}
 use Rattle.reserve_report.proofs.RowLines.{row_lines_more}
 use Rattle.reserve_report.proofs.report_text.push_rows.Goals as goal
 
 -- what a list of rows has past its end
-abbrev no_row : Row
+abbrev no_row : Note
 no_row = record { month = 0; state = 0; what = Value; lo = pos 0; hi = pos 0 }
 
 pub loop-i-preserved : goal.loop-i-preserved

@@ -1,26 +1,39 @@
-use Rattle.std.proofs.Common.{◌≡◌, List, map, FitsSigned, rules, ap, ◌∙◌, refl}
-use Rattle.std.specs.Int.{w128}
-use Rattle.std.proofs.lemmas.Int.{to_z-of_z}
+use Rattle.std.proofs.Common.{map, ap, sym, subst, ◌∙◌, refl, ◌∷◌, []}
+use Rattle.std.specs.Prelude.{All}
+use Rattle.std.proofs.lemmas.List.Elements.{All-nil, All-cons}
 use Rattle.model_specs.specs.Rows.{tolerance}
-use Rattle.reserve_report.specs.declared.report.Row.{Row}
-use Rattle.reserve_report.specs.declared.report.What.TheVariants as what
-use Rattle.reserve_report.specs.Reports.{Subject, row_of, subject_of}
-use Rattle.reserve_report.proofs.RightRows.{value_is_right, report_of_value}
+use Rattle.report_columns.specs.declared.note.What.TheVariants as what
+use Rattle.reserve_report.specs.Reports.{row_of}
+use Rattle.reserve_report.specs.TableRows.{issue_row_of}
+use Rattle.reserve_report.proofs.Shapes.{IsSound}
+use Rattle.reserve_report.proofs.Reported.{has_text, ends_of_value, issue_row_is_sound, report_of_value}
 use Rattle.reserve_report.proofs.results.from_value.Goals as goal
 
 pub returns-clause-report : goal.returns-clause-report
 returns-clause-report c =
     let p = c.args.adm.now in
-    let ends = c.printed-ends.result in
-    let lo_fits : FitsSigned w128 c.printed-ends.result.lo = search rules in
-    let hi_fits : FitsSigned w128 c.printed-ends.result.hi = search rules in
-    let row : Row = record { month = 0; state = c.start.result; what = what.Value; lo = ends.lo; hi = ends.hi } in
-    let start : c.start.result ≡ c.args.adm.now.start =
-    c.start.ensures.value ∙ ap (λ product. product.start) c.product.ensures.product in
-    let about : subject_of row ≡ record { month = 0; state = c.args.adm.now.start; what = what.Value } =
-    ap (λ state. record { month = 0; state = state; what = what.Value }) start in
-    report_of_value p _ c.args.v.now row refl refl c.scale.ensures.value (simp to_z-of_z at c.in_ok-rows.ensures.items)
-    (c.in_ok-tolerances_of.ensures ∙ ap (λ rows. map (λ each. tolerance p (row_of each)) rows) c.deref.ensures.value)
-    about c.requires
-    (value_is_right p c.args.v.now ends row c.requires c.printed-ends.ensures.encloses c.printed-ends.ensures.narrow
-    refl refl refl)
+    let v = c.args.v.now in
+    let ends = c.printed.result in
+    let rows = c.in_ok-rows.ensures.items ∙ ap (λ row. row ∷ []) c.issue_row-row.ensures.row in
+    let value = ends_of_value p v ends c.requires c.printed.ensures.encloses c.printed.ensures.narrow
+    c.printed.ensures.ordered c.printed.ensures.small in
+    let sound = All-cons (IsSound p v.degree) (issue_row_of p what.Value ends) []
+    (issue_row_is_sound p what.Value v.degree ends c.issue_row-row.ensures.lawful tt value)
+    (All-nil (IsSound p v.degree)) in
+    report_of_value p _ v ends refl refl c.scale.ensures rows
+    (c.in_ok-tolerances_of.ensures ∙ ap (λ rows. map (λ row. tolerance p (row_of row)) rows) c.deref.ensures.value)
+    c.requires (subst (All (IsSound p v.degree)) (sym rows) sound)
+
+pub returns-clause-text : goal.returns-clause-text
+returns-clause-text c =
+    let p = c.args.adm.now in
+    let v = c.args.v.now in
+    let ends = c.printed.result in
+    let rows = c.in_ok-rows.ensures.items ∙ ap (λ row. row ∷ []) c.issue_row-row.ensures.row in
+    let value = ends_of_value p v ends c.requires c.printed.ensures.encloses c.printed.ensures.narrow
+    c.printed.ensures.ordered c.printed.ensures.small in
+    let sound = All-cons (IsSound p v.degree) (issue_row_of p what.Value ends) []
+    (issue_row_is_sound p what.Value v.degree ends c.issue_row-row.ensures.lawful tt value)
+    (All-nil (IsSound p v.degree)) in
+    has_text p v.degree _ (subst (All (IsSound p v.degree)) (sym rows) sound)
+    (c.in_ok-tolerances_of.ensures ∙ ap (λ rows. map (λ row. tolerance p (row_of row)) rows) c.deref.ensures.value)
