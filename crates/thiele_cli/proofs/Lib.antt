@@ -2,5 +2,6 @@ pub mod Answered
 pub mod Causes
 pub mod Growth
 pub mod OneCase
-pub mod ValueReports
+pub mod Premiums
+pub mod Reported
 pub mod Verdicts

@@ -14,6 +14,7 @@ status_of end.FetchFault = 3
 status_of (end.TooLong seen) = 4
 status_of end.NotToml = 5
 status_of (end.Rule found) = 6
+status_of (end.NoPremium low) = 7
 status_of end.WriteFault = 8
 status_of end.Memory = 9
 status_of end.NotBuilt = 10

@@ -2,6 +2,7 @@ pub mod Cases
 pub mod Ends
 pub mod FileAnswers
 pub mod Outcome
+pub mod Premiums
 pub mod Questions
 pub mod Refusals
 pub mod Replies

@@ -1,5 +1,5 @@
 -- What the commands ask, and of which file.
-use Rattle.std.specs.Prelude.{◌≡◌, ℕ, List, Option, Some, None}
+use Rattle.std.specs.Prelude.{◌≡◌, ℕ, ◌<◌, List, Option, Some, None, ⊤}
 use Rattle.command_words.specs.Readings.{Request, Check, Value, Reserves, Occupancy, Moments, Premium, Generate}
 use Rattle.command_words.specs.Readings.{AreReadAs}
 use Rattle.thiele_cli.specs.declared.question.Question.{Question}
@@ -13,11 +13,23 @@ Asked = Option (Question × List ℕ)
 abbrev pub asked_of : Request → Asked
 asked_of (Check file) = Some (question.Limits, file)
 asked_of (Value file) = Some (question.ValueAtIssue, file)
-asked_of (Reserves file every) = None
-asked_of (Occupancy file every) = None
+asked_of (Reserves file every) = Some (question.Reserves every, file)
+asked_of (Occupancy file every) = Some (question.Occupancy every, file)
 asked_of (Moments file every) = None
-asked_of (Premium file) = None
+asked_of (Premium file) = Some (question.Premium, file)
 asked_of (Generate seed) = None
+
+-- dates that are asked for lie some months apart
+abbrev pub HasDates : Question → Type 0
+HasDates question.Limits = ⊤
+HasDates question.ValueAtIssue = ⊤
+HasDates (question.Reserves every) = 0 < every
+HasDates (question.Occupancy every) = 0 < every
+HasDates question.Premium = ⊤
+
+-- some words are read as the request
+abbrev pub IsRead : Request → Type 0
+IsRead request = (words : List (List ℕ)) × AreReadAs words request
 
 -- the request is not built yet
 abbrev pub IsUnbuilt : Request → Type 0

@@ -1,20 +1,23 @@
 -- What each case is answered by, and how an answer ends, reports and reads.
-use Rattle.std.specs.Prelude.{◌≡◌, ◌⊎◌, ℕ, ◌+◌, ◌<◌, ℤ, List, All, length, Option, Some, None, ⊤}
-use Rattle.named_numbers.specs.Numbers.{most_file_bytes}
+use Rattle.std.specs.Prelude.{◌≡◌, ◌⊎◌, ℕ, ◌+◌, ◌^◌, ◌≤◌, ℤ, unsigned_abs, List, Option, Some, None, ⊤}
+use Rattle.named_numbers.specs.Numbers.{most_file_bytes, highest_degree}
 use Rattle.model_specs.specs.Product.{Product}
-use Rattle.model_specs.specs.ValuationRules.{IsPlain}
 use Rattle.reserve_report.specs.declared.report.Report.{Report}
-use Rattle.reserve_report.specs.Reports.{IsValueReport}
+use Rattle.reserve_report.specs.declared.report.Kind.TheVariants as kind
+use Rattle.reserve_report.specs.Reports.{HasText, IsReport}
+use Rattle.premium_solver.specs.Premiums.{IsTooSmall, IsLargePattern}
 use Rattle.reserve_report.specs.ReportText.{report_text}
 use Rattle.reserve_report.specs.CheckText.{check_text}
 use Rattle.thiele_cli.specs.declared.end.End.{End}
 use Rattle.thiele_cli.specs.declared.end.End.TheVariants as end
 use Rattle.thiele_cli.specs.declared.question.Question.{Question}
 use Rattle.thiele_cli.specs.declared.question.Question.TheVariants as question
+use Rattle.thiele_cli.specs.declared.refusal.Refusal.{Refusal}
 use Rattle.thiele_cli.specs.declared.refusal.Refusal.TheVariants as refusal
 use Rattle.thiele_cli.specs.declared.answer.Answer.{Answer}
 use Rattle.thiele_cli.specs.declared.answer.Answer.TheVariants as answer
 use Rattle.thiele_cli.specs.Refusals.{refused_end, line_of}
+use Rattle.thiele_cli.specs.Premiums.{HasClosePremium}
 use Rattle.thiele_cli.specs.Cases.{Case, NoReading, Unbuilt, TooLong, NoToml, Broken, Answered}
 
 -- the end of a run with this answer, once its text is written
@@ -35,32 +38,48 @@ text_of (answer.Limits product) = check_text product
 text_of (answer.Report product report) = report_text product report
 text_of (answer.Refused why) = line_of why
 
--- each row of the report has a tolerance, and is about a state of the product
-pub record HasRowsOf (product : Product) (report : Report) : Type 0 where
-  pub same : length report.rows.items ≡ length report.tolerance.items
-  pub states : All (λ row. row.state < length product.states) report.rows.items
+-- a refusal has a line: the number that it tells is not too large for it
+abbrev pub HasLine : Refusal → Type 0
+HasLine refusal.Words = ⊤
+HasLine refusal.Unbuilt = ⊤
+HasLine (refusal.Length seen) = ⊤
+HasLine refusal.Toml = ⊤
+HasLine (refusal.Rule found) = ⊤
+HasLine (refusal.Premium low) = unsigned_abs low ≤ 2 ^ 100
 
 -- the answer has a text
 abbrev pub IsPrintable : Answer → Type 0
 IsPrintable (answer.Limits product) = ⊤
-IsPrintable (answer.Report product report) = HasRowsOf product report
-IsPrintable (answer.Refused why) = ⊤
-
--- a plain product: one state, no lump, a constant force of interest and a constant sojourn rate
-abbrev pub IsPlainProduct : Product → Type 0
-IsPlainProduct product = (force : ℤ) × (rate : ℤ) × IsPlain product force rate
+IsPrintable (answer.Report product report) = HasText product report
+IsPrintable (answer.Refused why) = HasLine why
 
 -- the answer is a report about the product, and it is right in this sense
 abbrev pub Reports : Product → (Report → Type 0) → Answer → Type 0
 Reports product IsRight given =
     (report : Report) × (given ≡ answer.Report product report) × IsRight report
 
+-- a report of the premium, whose ends are as close as the tolerances of the benefits and of the pattern say
+pub record IsPremiumReport (product : Product) (report : Report) : Type 0 where
+  pub is_report : IsReport product kind.Premium 1 report
+  pub close : HasClosePremium product report
+
+-- the pattern's value is refused: its interval begins below 1/32, and no value of degree 24 or more is at least 1/32
+-- and the width of its interval
+pub record IsRefusedPremium (product : Product) (given : Answer) : Type 0 where
+  pub low : ℤ
+  pub refused : given ≡ answer.Refused (refusal.Premium low)
+  pub too_small : IsTooSmall product low
+  pub none_large : (n : ℕ) → highest_degree ≤ n → ¬ IsLargePattern product n
+
 -- the answer to a question about a product that breaks no rule
 abbrev pub AnswersQuestion : Question → Product → Answer → Type 0
 AnswersQuestion question.Limits product given = given ≡ answer.Limits product
-AnswersQuestion question.ValueAtIssue product given =
-    (IsPlainProduct product × Reports product (IsValueReport product) given)
-    ⊎ ((¬ IsPlainProduct product) × (given ≡ answer.Refused refusal.Unbuilt))
+AnswersQuestion question.ValueAtIssue product given = Reports product (IsReport product kind.Value 1) given
+AnswersQuestion (question.Reserves every) product given = Reports product (IsReport product kind.Reserves every) given
+AnswersQuestion (question.Occupancy every) product given =
+    Reports product (IsReport product kind.Occupancy every) given
+AnswersQuestion question.Premium product given =
+    Reports product (IsPremiumReport product) given ⊎ IsRefusedPremium product given
 
 -- the answer to each case
 abbrev pub Answers : Case → Answer → Type 0

@@ -1,7 +1,7 @@
 // What a command is answered by, before the sink is reached.
 ghost use Rattle.std.specs.Prelude.{◌≡◌, ℕ, ◌++◌, List, [], ◌∷◌, Some, IfOk, OnOk, IsErrOf};
 ghost use Rattle.command_words.specs.Commands.{request_of};
-ghost use Rattle.thiele_cli.specs.Questions.{asked_of, IsAskedOf};
+ghost use Rattle.thiele_cli.specs.Questions.{asked_of, HasDates, IsAskedOf, IsRead};
 ghost use Rattle.thiele_cli.specs.Replies.{IsPrintable};
 ghost use Rattle.thiele_cli.specs.FileAnswers.{AnswersFile, AnswersAsked};
 
@@ -17,6 +17,7 @@ use std::alloc::{AllocError, Global};
 
 /// The answer to a question about the bytes of a file.
 fn file_answer(alloc: Global, question: Question, bytes: &[u8]) -> Result<Answer, AllocError>
+    requires { HasDates question }
     ensures answer { IfOk result (AnswersFile question bytes.now) }
     ensures printable { IfOk result IsPrintable }
 {
@@ -34,6 +35,7 @@ fn named_answer<H: Shelf>(
     name: &str,
     shelf: &mut H,
 ) -> Result<Answer, Fault>
+    requires { HasDates question }
     ensures answer { IfOk result (AnswersAsked (H.files shelf.old) (Some (question, name.now))) }
     ensures printable { IfOk result IsPrintable }
     ensures fetched { OnOk result (H.failed shelf.new ≡ H.failed shelf.old) }
@@ -55,6 +57,7 @@ pub fn command_answer<H: Shelf>(
     command: Command<'_>,
     shelf: &mut H,
 ) -> Result<Answer, Fault>
+    requires { IsRead (request_of command) }
     ensures answer { IfOk result (AnswersAsked (H.files shelf.old) (asked_of (request_of command.entry))) }
     ensures printable { IfOk result IsPrintable }
     ensures fetched { OnOk result (H.failed shelf.new ≡ H.failed shelf.old) }
@@ -67,10 +70,13 @@ pub fn command_answer<H: Shelf>(
     match command {
         Command::Check(name) => named_answer(alloc, Question::Limits, name, shelf),
         Command::Value(name) => named_answer(alloc, Question::ValueAtIssue, name, shelf),
-        Command::Reserves(..)
-        | Command::Occupancy(..)
-        | Command::Moments(..)
-        | Command::Premium(_)
-        | Command::Generate(_) => Ok(Answer::Refused(Refusal::Unbuilt)),
+        Command::Reserves(name, every) => {
+            named_answer(alloc, Question::Reserves(every), name, shelf)
+        }
+        Command::Occupancy(name, every) => {
+            named_answer(alloc, Question::Occupancy(every), name, shelf)
+        }
+        Command::Premium(name) => named_answer(alloc, Question::Premium, name, shelf),
+        Command::Moments(..) | Command::Generate(_) => Ok(Answer::Refused(Refusal::Unbuilt)),
     }
 }

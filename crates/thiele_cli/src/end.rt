@@ -22,6 +22,8 @@ pub enum End {
     NotToml,
     /// The file breaks this rule first, at its least place.
     Rule(RuleBreak),
+    /// The value of the premium pattern is too small: its interval begins here, in units of 2^-64.
+    NoPremium { low: i128 },
     /// Some of the text could not be written.
     WriteFault,
     /// Memory was refused.
@@ -40,6 +42,7 @@ impl End {
             End::TooLong { .. } => 4,
             End::NotToml => 5,
             End::Rule(_) => 6,
+            End::NoPremium { .. } => 7,
             End::WriteFault => 8,
             End::Memory => 9,
             End::NotBuilt => 10,

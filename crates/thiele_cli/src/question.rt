@@ -1,11 +1,15 @@
 // What is asked of a product, and its answer.
-ghost use Rattle.std.specs.Prelude.{IfOk};
+ghost use Rattle.std.specs.Prelude.{◌≡◌, ◌<◌, IfOk};
+ghost use Rattle.thiele_cli.specs.Questions.{HasDates};
 ghost use Rattle.thiele_cli.specs.Replies.{AnswersQuestion, IsPrintable};
 
 use crate::answer::Answer;
-use crate::valuation::value_answer;
+use crate::valuation::{occupancy_answer, premium_answer, reserves_answer, value_answer};
 use rate_bounds::Admitted;
 use std::alloc::{AllocError, Global};
+use std::marker::Brand;
+use std::sync::ledger::{Blank, Ledger};
+use taylor_step::Steps;
 
 /// What is asked of a product.
 #[derive(Clone, Copy, Debug, PartialEq, Eq)]
@@ -14,6 +18,36 @@ pub enum Question {
     Limits,
     /// Its value at issue in the start state, by `value`.
     ValueAtIssue,
+    /// Its reserves in all states, each so many months up to the term, by `reserves`.
+    Reserves(u32),
+    /// The probabilities of its states at these dates, by `occupancy`.
+    Occupancy(u32),
+    /// Its equivalence premium, by `premium`.
+    Premium,
+}
+
+// The answer, by sweeps that count their steps.
+fn counted_answer<L: Ledger>(
+    alloc: Global,
+    question: Question,
+    admitted: Admitted,
+    blank: Blank,
+) -> Result<Answer, AllocError>
+    requires name { blank.name ≡ L.name }
+    requires parts { blank.parts ≡ L.parts }
+    requires some_parts { 0 < blank.parts }
+    requires dates { HasDates question }
+    ensures answer { IfOk result (AnswersQuestion question admitted) }
+    ensures printable { IfOk result IsPrintable }
+{
+    let mut steps = Steps::<L>::open(blank);
+    match question {
+        Question::Limits => Ok(Answer::Limits(admitted)),
+        Question::ValueAtIssue => value_answer(alloc, admitted, &mut steps),
+        Question::Reserves(every) => reserves_answer(alloc, admitted, every, &mut steps),
+        Question::Occupancy(every) => occupancy_answer(alloc, admitted, every, &mut steps),
+        Question::Premium => premium_answer(alloc, admitted, &mut steps),
+    }
 }
 
 /// The answer to a question about a product.
@@ -22,11 +56,9 @@ pub fn product_answer(
     question: Question,
     admitted: Admitted,
 ) -> Result<Answer, AllocError>
+    requires { HasDates question }
     ensures answer { IfOk result (AnswersQuestion question admitted) }
     ensures printable { IfOk result IsPrintable }
 {
-    match question {
-        Question::Limits => Ok(Answer::Limits(admitted)),
-        Question::ValueAtIssue => value_answer(alloc, admitted),
-    }
+    counted_answer::<Brand>(alloc, question, admitted, Blank::new(1))
 }

@@ -65,6 +65,46 @@ state = "on"
 amount = 10000
 "#;
 
+/// An annuity of 1,200 a year to a life with an intensity of death of 2 %, for ten years at 3 %.
+const LIFE: &[u8] = br#"format = 1
+name = "life"
+months = 120
+den = 100
+start = "active"
+states = ["active", "dead"]
+interest = [{ from = 0, c = [3] }]
+
+[[transition]]
+from = "active"
+to = "dead"
+rate = [{ from = 0, c = [2] }]
+
+[[sojourn]]
+state = "active"
+steps = [{ from = 0, amount = 1200 }]
+"#;
+
+/// A sum of 100,000 at the death of that life, and a premium until the term.
+const TERM: &[u8] = br#"format = 1
+name = "term"
+months = 120
+den = 100
+start = "active"
+states = ["active", "dead"]
+interest = [{ from = 0, c = [3] }]
+
+[[transition]]
+from = "active"
+to = "dead"
+rate = [{ from = 0, c = [2] }]
+sum = [{ from = 0, amount = 100000 }]
+
+[premium]
+payers = ["active"]
+until = 120
+every = 0
+"#;
+
 /// A shelf with the files of these tests.
 fn shelf(alloc: Global, failing: &[u64]) -> Result<MemoryShelf, AllocError> {
     let mut files = Vec::new(alloc);
@@ -73,6 +113,8 @@ fn shelf(alloc: Global, failing: &[u64]) -> Result<MemoryShelf, AllocError> {
         ("large", LARGE),
         ("interest", WITH_INTEREST),
         ("lump", LUMP),
+        ("life", LIFE),
+        ("term", TERM),
         ("cut", &FLAT[..22]),
         ("empty", b"".as_slice()),
     ] {
@@ -114,7 +156,14 @@ fn each_end_writes_its_text(rt: HostRuntime) -> Result<(), Fail> {
             6,
             "refused rule 1 place 0\n",
         ),
-        ("value", "lump", End::NotBuilt, 10, "refused unbuilt\n"),
+        // nobody pays: the pattern's value is 0, and its interval begins the radius of 384 cells below it
+        (
+            "premium",
+            "flat",
+            End::NoPremium { low: -393_216 },
+            7,
+            "refused premium low -0.000001\n",
+        ),
         ("check", "cut", End::NotToml, 5, "refused toml\n"),
         ("value", "missing", End::FetchFault, 3, ""),
         (
@@ -186,6 +235,8 @@ fn values_are_enclosed_within_their_tolerances(rt: HostRuntime) -> Result<(), Fa
         ),
         // 240000 (1 - exp(-1/20)) = 11704.938119828..
         ("interest", 15, 11_704_938_119, 11_704_938_120, 3),
+        // 10000 exp(-1/20) = 9512.294245007..
+        ("lump", 14, 9_512_294_245, 9_512_294_246, 3),
     ] {
         let mut sink = sink(alloc, &[])?;
         let finish = run(
@@ -208,6 +259,91 @@ fn values_are_enclosed_within_their_tolerances(rt: HostRuntime) -> Result<(), Fa
 }
 
 #[test]
+fn reserves_stand_by_date_and_then_by_state(rt: HostRuntime) -> Result<(), Fail> {
+    let alloc = rt.alloc();
+    let mut sink = sink(alloc, &[])?;
+    let finish = run(
+        alloc,
+        &words(alloc, &["reserves", "life", "50"])?,
+        &mut shelf(alloc, &[])?,
+        &mut sink,
+    );
+    let report = finish.report.ok_or("no report")?;
+    assert_eq!(rt; report.rows.len(), 6);
+    // 24000 (1 - exp(-t / 20)) for the t years that are left, 10, 35/6 and 5/3, between whole millionths; and nothing
+    // in the state of death
+    let wanted = [
+        (0, 0, 9_443_264_166, 9_443_264_167),
+        (0, 1, 0, 0),
+        (50, 0, 6_071_579_992, 6_071_579_993),
+        (50, 1, 0, 0),
+        (100, 0, 1_918_934_048, 1_918_934_049),
+        (100, 1, 0, 0),
+    ];
+    for i in 0..report.rows.len().min(wanted.len()) {
+        let row = &report.rows[i];
+        let (month, state, below, above) = wanted[i];
+        assert_eq!(rt; (row.month, row.state), (month, state));
+        assert!(rt; row.lo <= below && above <= row.hi, "{month} {state}");
+    }
+    Ok(())
+}
+
+#[test]
+fn probabilities_stand_by_date_and_then_by_state(rt: HostRuntime) -> Result<(), Fail> {
+    let alloc = rt.alloc();
+    let mut sink = sink(alloc, &[])?;
+    let finish = run(
+        alloc,
+        &words(alloc, &["occupancy", "life", "120"])?,
+        &mut shelf(alloc, &[])?,
+        &mut sink,
+    );
+    let report = finish.report.ok_or("no report")?;
+    assert_eq!(rt; report.rows.len(), 4);
+    // 1 at issue, and exp(-1/5) = 0.818730753.. after ten years
+    let wanted = [
+        (0, 0, 1_000_000, 1_000_000),
+        (0, 1, 0, 0),
+        (120, 0, 818_730, 818_731),
+        (120, 1, 181_269, 181_270),
+    ];
+    for i in 0..report.rows.len().min(wanted.len()) {
+        let row = &report.rows[i];
+        let (month, state, below, above) = wanted[i];
+        assert_eq!(rt; (row.month, row.state), (month, state));
+        assert!(rt; row.lo <= below && above <= row.hi, "{month} {state}");
+    }
+    Ok(())
+}
+
+#[test]
+fn the_premium_of_a_constant_intensity_is_enclosed(rt: HostRuntime) -> Result<(), Fail> {
+    let alloc = rt.alloc();
+    let mut sink = sink(alloc, &[])?;
+    let finish = run(
+        alloc,
+        &words(alloc, &["premium", "term"])?,
+        &mut shelf(alloc, &[])?,
+        &mut sink,
+    );
+    let report = finish.report.ok_or("no report")?;
+    assert_eq!(rt; report.rows.len(), 3);
+    // 40000 (1 - exp(-1/2)) and 20 (1 - exp(-1/2)), whose quotient is 2000
+    let wanted = [
+        (15_738_773_611, 15_738_773_612),
+        (7_869_386, 7_869_387),
+        (2_000_000_000, 2_000_000_000),
+    ];
+    for i in 0..report.rows.len().min(wanted.len()) {
+        let row = &report.rows[i];
+        let (below, above) = wanted[i];
+        assert!(rt; row.lo <= below && above <= row.hi, "{i}");
+    }
+    Ok(())
+}
+
+#[test]
 fn words_that_name_nothing_to_do_are_refused_before_the_fetch(rt: HostRuntime) -> Result<(), Fail> {
     let alloc = rt.alloc();
     // a fetch would fail, and its end would be another one
@@ -216,7 +352,7 @@ fn words_that_name_nothing_to_do_are_refused_before_the_fetch(rt: HostRuntime) -
         (["value", ""].as_slice(), 2, "refused words\n"),
         (&["Value", "flat"], 2, "refused words\n"),
         (&["reserves", "flat", "0"], 2, "refused words\n"),
-        (&["reserves", "flat", "12"], 10, "refused unbuilt\n"),
+        (&["moments", "flat", "12"], 10, "refused unbuilt\n"),
         (&["generate", "7"], 10, "refused unbuilt\n"),
     ] {
         let mut sink = sink(alloc, &[])?;

@@ -1,61 +1,98 @@
-// The value of a plain product.
-ghost use Rattle.std.specs.Prelude.{◌≡◌, ◌<◌, All, IfOk, length};
-ghost use Rattle.plain_value.specs.PlainNumbers.{ArePlainNumbers};
-ghost use Rattle.reserve_report.specs.Reports.{IsValueReport};
-ghost use Rattle.thiele_cli.specs.declared.question.Question.TheVariants.{ValueAtIssue};
+// Valuations of a product, as answers.
+ghost use Rattle.std.specs.Prelude.{◌≡◌, ◌<◌, ℤ, IfOk};
+ghost use Rattle.thiele_cli.specs.declared.question.Question.TheVariants as question;
 ghost use Rattle.thiele_cli.specs.Replies.{AnswersQuestion, IsPrintable};
 
 use crate::answer::Answer;
 use crate::refusal::Refusal;
-use plain_value::{Plain, Valued, plain_numbers, value};
-use product_model::Product;
+use kolmogorov_forward::occupancy;
+use payment_plan::Which;
+use premium_solver::{PremiumError, solve};
 use rate_bounds::Admitted;
-use reserve_report::{Kind, Report, Row, What};
+use reserve_report::{Kind, from_premium, from_table, from_value};
 use std::alloc::{AllocError, Global};
+use std::sync::ledger::Ledger;
+use taylor_step::Steps;
+use thiele_backward::{reserves, value};
 
-/// The row of the value in the start state, the lump of date 0 included.
-fn value_row(start: usize, valued: &Valued) -> Row
-    requires { start < 12 }
-    ensures { result ≡ record { month = 0; state = start; what = What.Value; lo = valued.now.lo; hi = valued.now.hi } }
+/// The value at issue in the start state.
+pub fn value_answer<L: Ledger>(
+    alloc: Global,
+    admitted: Admitted,
+    steps: &mut Steps<L>,
+) -> Result<Answer, AllocError>
+    requires { steps.old ≡ 0 }
+    ensures answer { IfOk result (AnswersQuestion question.ValueAtIssue admitted) }
+    ensures printable { IfOk result IsPrintable }
 {
-    Row {
-        month: 0,
-        state: start as u32,
-        what: What::Value,
-        lo: valued.lo,
-        hi: valued.hi,
+    let _months = admitted.product().months();
+    let valued = value(alloc, &admitted, Which::Benefits, steps)?;
+    let report = from_value(alloc, &admitted, &valued)?;
+    Ok(Answer::Report(admitted, report))
+}
+
+/// The reserves of all states at the dates 0, `every`, 2 `every` and so on, up to the term.
+pub fn reserves_answer<L: Ledger>(
+    alloc: Global,
+    admitted: Admitted,
+    every: u32,
+    steps: &mut Steps<L>,
+) -> Result<Answer, AllocError>
+    requires every { 0 < every }
+    requires count { steps.old ≡ 0 }
+    ensures answer { IfOk result (AnswersQuestion (question.Reserves every) admitted) }
+    ensures printable { IfOk result IsPrintable }
+{
+    let _months = admitted.product().months();
+    let table = reserves(alloc, &admitted, every, steps)?;
+    let report = from_table(alloc, &admitted, Kind::Reserves, &table)?;
+    Ok(Answer::Report(admitted, report))
+}
+
+/// The probabilities of all states at these dates, from the start state at issue.
+pub fn occupancy_answer<L: Ledger>(
+    alloc: Global,
+    admitted: Admitted,
+    every: u32,
+    steps: &mut Steps<L>,
+) -> Result<Answer, AllocError>
+    requires every { 0 < every }
+    requires count { steps.old ≡ 0 }
+    ensures answer { IfOk result (AnswersQuestion (question.Occupancy every) admitted) }
+    ensures printable { IfOk result IsPrintable }
+{
+    let _months = admitted.product().months();
+    let table = occupancy(alloc, &admitted, every, steps)?;
+    let report = from_table(alloc, &admitted, Kind::Occupancy, &table)?;
+    Ok(Answer::Report(admitted, report))
+}
+
+// Why there is no premium, unless for want of memory.
+fn refusal_of(error: PremiumError) -> Result<Refusal, AllocError>
+    ensures { IfOk result (λ why. (low : ℤ) × (error ≡ PremiumError.TooSmall low) × (why ≡ Refusal.Premium low)) }
+{
+    match error {
+        PremiumError::TooSmall { low } => Ok(Refusal::Premium { low }),
+        PremiumError::Memory => Err(AllocError),
     }
 }
 
-/// The report of the value at issue of a plain product.
-fn value_report(alloc: Global, product: &Product, plain: Plain) -> Result<Report, AllocError>
-    requires { ArePlainNumbers product.now plain }
-    ensures report { IfOk result (IsValueReport product.now) }
-    ensures same { IfOk result (λ report. length report.rows.items ≡ length report.tolerance.items) }
-    ensures states { IfOk result (λ report. All (λ row. row.state < length product.now.states) report.rows.items) }
-{
-    let valued = value(alloc, product, plain)?;
-    let mut rows = Vec::new(alloc);
-    rows.push(value_row(product.start(), &valued))?;
-    let mut tolerance = Vec::new(alloc);
-    tolerance.push(valued.tolerance)?;
-    Ok(Report {
-        kind: Kind::Value,
-        degree: valued.degree,
-        scale: valued.scale as u8,
-        tolerance,
-        rows,
-    })
-}
-
-/// The value at issue: a report, where the product is plain. Another product is not valued yet.
-pub fn value_answer(alloc: Global, admitted: Admitted) -> Result<Answer, AllocError>
-    ensures answer { IfOk result (AnswersQuestion ValueAtIssue admitted) }
+/// The equivalence premium, or that the pattern's value is too small for one.
+pub fn premium_answer<L: Ledger>(
+    alloc: Global,
+    admitted: Admitted,
+    steps: &mut Steps<L>,
+) -> Result<Answer, AllocError>
+    requires { steps.old ≡ 0 }
+    ensures answer { IfOk result (AnswersQuestion question.Premium admitted) }
     ensures printable { IfOk result IsPrintable }
 {
-    let Some(plain) = plain_numbers(admitted.product()) else {
-        return Ok(Answer::Refused(Refusal::Unbuilt));
-    };
-    let report = value_report(alloc, admitted.product(), plain)?;
-    Ok(Answer::Report(admitted, report))
+    let _months = admitted.product().months();
+    match solve(alloc, &admitted, steps) {
+        Ok(table) => {
+            let report = from_premium(alloc, &admitted, &table)?;
+            Ok(Answer::Report(admitted, report))
+        }
+        Err(error) => Ok(Answer::Refused(refusal_of(error)?)),
+    }
 }

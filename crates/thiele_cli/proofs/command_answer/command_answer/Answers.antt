@@ -1,0 +1,19 @@
+use Rattle.std.proofs.Common.{ap}
+use Rattle.command_words.specs.Commands.{request_of}
+use Rattle.thiele_cli.specs.declared.question.Question.TheVariants.{Occupancy, Reserves}
+use Rattle.thiele_cli.specs.Questions.{asked_of}
+use Rattle.thiele_cli.proofs.command_answer.command_answer.Goals as goal
+
+pub returns-in-Reserves-clause-not_fetched : goal.returns-in-Reserves-clause-not_fetched
+returns-in-Reserves-clause-not_fetched g c failed = (
+  c.in-Reserves.name.now,
+  (Reserves c.in-Reserves.every, ap (λ command. asked_of (request_of command)) c.in-Reserves.is),
+  c.named_answer-in-Reserves.ensures.not_fetched failed,
+)
+
+pub returns-in-Occupancy-clause-not_fetched : goal.returns-in-Occupancy-clause-not_fetched
+returns-in-Occupancy-clause-not_fetched g c failed = (
+  c.in-Occupancy.name.now,
+  (Occupancy c.in-Occupancy.every, ap (λ command. asked_of (request_of command)) c.in-Occupancy.is),
+  c.named_answer-in-Occupancy.ensures.not_fetched failed,
+)
