@@ -65,11 +65,12 @@ pub record HasSmallPayments (cell : CellCurves) (rates : ℕ → ℕ → Fractio
       → rate i +ℚ sum_to cell.states (λ j. rates i j *ℚ sum i j) ≤ℚ x
   pub greatest_sum : (i j : ℕ) → sum i j ≤ℚ greatest
 
--- the list 1, 0, 0, .., and K without its first number
+-- the list 1, 0, 0, ..
 abbrev pub first_bound : ℕ → Fraction
 first_bound zero = whole (pos 1)
 first_bound (suc m) = whole (pos 0)
 
+-- K without its first number
 abbrev pub later_bound : ℕ → Fraction
 later_bound m = coefficient_bound 5 (over (pos 1) 32) (whole (pos 0)) (whole (pos 1)) m
 
@@ -86,10 +87,11 @@ pub record HasSmallSums (cell : CellCurves) (sum largest apart : ℕ → ℕ →
 abbrev pub paid_bound : ℕ → Fraction
 paid_bound m = convolution rate_bound load_bound m
 
--- and of a curve and a payment twice, by how often the payment's first number is taken
+-- the coefficients of a product of a curve and two payments, each payment by its first number or its later ones
 abbrev pub square_bound : (ℕ → Fraction) → (ℕ → Fraction) → ℕ → Fraction
 square_bound p q m = convolution (convolution rate_bound p) q m
 
+-- of a curve and a payment of load 1 twice: products of its two parts are at most 1, 1/16 and 4/81
 abbrev pub twice_paid_bound : ℕ → Fraction
 twice_paid_bound m = square_bound first_bound first_bound m
     +ℚ over (pos 1) 16 *ℚ (square_bound first_bound later_bound m +ℚ square_bound later_bound first_bound m)

@@ -25,51 +25,59 @@ abbrev pub HasTailBelow : Norm → ℕ → (ℕ → Vector) → Type 0
 HasTailBelow norm parts y =
     (terms : ℕ) → sum_to terms (λ i. norm_of_vector norm (y (25 + i))) ≤ℚ unit_part parts
 
--- a tame system from a start of norm at most 2
+-- from a start of norm at most 2 the coefficients of a tame system decay below 2
 abbrev pub CoefficientsDecay : Type 0
 CoefficientsDecay = (norm : Norm) (kappa40 : ℕ) (s : System) (y : Vector) → IsTame norm kappa40 s
     → norm_of_vector norm y ≤ℚ whole (pos 2) → DecaysBelow norm (whole (pos 2)) (coefficient s y)
 
+-- and those past power 24 add up to at most 1/896 of a unit
 abbrev pub TailsAreBelowAUnit : Type 0
 TailsAreBelowAUnit = (norm : Norm) (kappa40 : ℕ) (s : System) (y : Vector) → IsTame norm kappa40 s
     → norm_of_vector norm y ≤ℚ whole (pos 2) → HasTailBelow norm 896 (coefficient s y)
 
--- a tame system from a stored start, which may be of norm up to 17/8
+-- from a stored start, which may be of norm up to 17/8, they decay below 17/8
 abbrev pub StoredCoefficientsDecay : Type 0
 StoredCoefficientsDecay = (norm : Norm) (kappa40 : ℕ) (s : System) (y : Vector) → IsTame norm kappa40 s
     → norm_of_vector norm y ≤ℚ over (pos 17) 8 → DecaysBelow norm (over (pos 17) 8) (coefficient s y)
 
+-- and those past power 24 add up to at most 1/400 of a unit
 abbrev pub StoredTailsAreBelowAUnit : Type 0
 StoredTailsAreBelowAUnit = (norm : Norm) (kappa40 : ℕ) (s : System) (y : Vector) → IsTame norm kappa40 s
     → norm_of_vector norm y ≤ℚ over (pos 17) 8 → HasTailBelow norm 400 (coefficient s y)
 
--- both halves of a tame pair, from starts w and z that both have at most a norm
+-- the starts w and z of the two halves of a pair both have at most a norm
 abbrev pub StartsWithin : Fraction → Vector → Vector → Type 0
 StartsWithin start w z = (norm_of_vector Sup w ≤ℚ start) × (norm_of_vector Sup z ≤ℚ start)
 
+-- from starts of norm at most 1 the coefficients of a tame pair's first half decay below 3/2
 abbrev pub FirstHalvesDecay : Type 0
 FirstHalvesDecay = (kappa40 : ℕ) (c : Fraction) (p : CoupledPair) (w z : Vector) → IsTamePair kappa40 c p
     → StartsWithin (whole (pos 1)) w z → DecaysBelow Sup (over (pos 3) 2) (coefficient p.first w)
 
+-- those of its second half decay below 2
 abbrev pub SecondHalvesDecay : Type 0
 SecondHalvesDecay = (kappa40 : ℕ) (c : Fraction) (p : CoupledPair) (w z : Vector) → IsTamePair kappa40 c p
     → StartsWithin (whole (pos 1)) w z → DecaysBelow Sup (whole (pos 2)) (second_coefficient p w z)
 
+-- and the second half's past power 24 add up to at most 1/896 of a unit
 abbrev pub SecondTailsAreBelowAUnit : Type 0
 SecondTailsAreBelowAUnit =
     (kappa40 : ℕ) (c : Fraction) (p : CoupledPair) (w z : Vector) → IsTamePair kappa40 c p
     → StartsWithin (whole (pos 1)) w z → HasTailBelow Sup 896 (second_coefficient p w z)
 
+-- from stored starts, which may be of norm up to 17/16, those of the first half decay below 49/32
 abbrev pub StoredFirstHalvesDecay : Type 0
 StoredFirstHalvesDecay =
     (kappa40 : ℕ) (c : Fraction) (p : CoupledPair) (w z : Vector) → IsTamePair kappa40 c p
     → StartsWithin (over (pos 17) 16) w z → DecaysBelow Sup (over (pos 49) 32) (coefficient p.first w)
 
+-- those of the second half decay below 17/8
 abbrev pub StoredSecondHalvesDecay : Type 0
 StoredSecondHalvesDecay =
     (kappa40 : ℕ) (c : Fraction) (p : CoupledPair) (w z : Vector) → IsTamePair kappa40 c p
     → StartsWithin (over (pos 17) 16) w z → DecaysBelow Sup (over (pos 17) 8) (second_coefficient p w z)
 
+-- and the second half's past power 24 add up to at most 1/400 of a unit
 abbrev pub StoredSecondTailsAreBelowAUnit : Type 0
 StoredSecondTailsAreBelowAUnit =
     (kappa40 : ℕ) (c : Fraction) (p : CoupledPair) (w z : Vector) → IsTamePair kappa40 c p

@@ -36,27 +36,28 @@ SecondErrorsGrow =
     → distance Sup (second_taylor_value p w z n) (second_taylor_value p v x n)
     ≤ℚ growth_factor Sup kappa40 p.second n *ℚ distance Sup z x +ℚ c *ℚ distance Sup w v
 
--- a Taylor value of degree 24 or more is within 1/896 of a unit of that of degree 24, and from a stored start
--- within 1/400
+-- a Taylor value of degree 24 or more is within 1/896 of a unit of that of degree 24
 abbrev pub LaterDegreesAreClose : Type 0
 LaterDegreesAreClose =
     (norm : Norm) (kappa40 : ℕ) (s : System) (y : Vector) (more : ℕ) → IsTame norm kappa40 s
     → norm_of_vector norm y ≤ℚ whole (pos 2)
     → distance norm (taylor_value s y (24 + more)) (taylor_value s y 24) ≤ℚ unit_part 896
 
+-- from a stored start, which may be of norm up to 17/8, it is within 1/400 of a unit
 abbrev pub StoredLaterDegreesAreClose : Type 0
 StoredLaterDegreesAreClose =
     (norm : Norm) (kappa40 : ℕ) (s : System) (y : Vector) (more : ℕ) → IsTame norm kappa40 s
     → norm_of_vector norm y ≤ℚ over (pos 17) 8
     → distance norm (taylor_value s y (24 + more)) (taylor_value s y 24) ≤ℚ unit_part 400
 
--- and so for the second half of a pair
+-- of the second half of a pair it is within 1/896 of a unit
 abbrev pub SecondLaterDegreesAreClose : Type 0
 SecondLaterDegreesAreClose =
     (kappa40 : ℕ) (c : Fraction) (p : CoupledPair) (w z : Vector) (more : ℕ) → IsTamePair kappa40 c p
     → StartsWithin (whole (pos 1)) w z
     → distance Sup (second_taylor_value p w z (24 + more)) (second_taylor_value p w z 24) ≤ℚ unit_part 896
 
+-- and from stored starts, which may be of norm up to 17/16, within 1/400 of a unit
 abbrev pub StoredSecondLaterDegreesAreClose : Type 0
 StoredSecondLaterDegreesAreClose =
     (kappa40 : ℕ) (c : Fraction) (p : CoupledPair) (w z : Vector) (more : ℕ) → IsTamePair kappa40 c p

@@ -31,6 +31,7 @@ abbrev pub TaylorValueSums : Type 0
 TaylorValueSums = (s : System) (y : Vector) (n i : ℕ) →
     number_at (taylor_value s y n) i ≡ sum_to (suc n) (λ k. number_at (coefficient s y k) i)
 
+-- and so is that of a pair's second half, by the second half's coefficients
 abbrev pub SecondTaylorValueSums : Type 0
 SecondTaylorValueSums = (p : CoupledPair) (w z : Vector) (n i : ℕ) →
     number_at (second_taylor_value p w z n) i
@@ -42,6 +43,7 @@ CoefficientsSuperpose = (s : System) (y x : Vector) (k i : ℕ) →
     number_at (coefficient s y k) i -ℚ number_at (coefficient s x k) i
     ≡ number_at (coefficient (homogeneous s) (subtract_lists y x) k) i
 
+-- and so it is of their Taylor values
 abbrev pub TaylorValuesSuperpose : Type 0
 TaylorValuesSuperpose = (s : System) (y x : Vector) (n i : ℕ) →
     number_at (taylor_value s y n) i -ℚ number_at (taylor_value s x n) i
@@ -65,6 +67,7 @@ TaylorValuesStayWithin = (norm : Norm) (s : System) (y : Vector) (n : ℕ) →
     norm_of_vector norm (taylor_value s y n)
     ≤ℚ sum_to (suc n) (λ k. norm_of_vector norm (coefficient s y k))
 
+-- and so is that of a pair's second half, by the second half's coefficients
 abbrev pub SecondTaylorValuesStayWithin : Type 0
 SecondTaylorValuesStayWithin = (norm : Norm) (p : CoupledPair) (w z : Vector) (n : ℕ) →
     norm_of_vector norm (second_taylor_value p w z n)

@@ -9,10 +9,11 @@ use Rattle.cell_laws.specs.Systems.{System, taylor_value}
 use Rattle.cell_laws.specs.Pairs.{CoupledPair, second_taylor_value}
 use Rattle.cell_laws.specs.Tame.{IsTame, IsTamePair}
 
--- n / d and -n / d
+-- n / d
 abbrev pub plus : ℕ → ℕ → Fraction
 plus n d = over (pos n) d
 
+-- -n / d
 abbrev pub minus : ℕ → ℕ → Fraction
 minus n d = over (neg_ℤ (pos n)) d
 
@@ -59,23 +60,27 @@ sample_pair = record {
       ∷ (two (plus 0 1) (plus 1 2048) ∷ two (plus 0 1) (plus 0 1) ∷ []) ∷ [];
 }
 
--- each is tame in its norm with some growth
+-- the backward system is tame in Sup with this growth, in 1/2^40
 abbrev pub BackwardSystemIsTame : Type 0
 BackwardSystemIsTame = IsTame Sup 280319832 backward_system
 
+-- the forward system is tame in Sum
 abbrev pub ForwardSystemIsTame : Type 0
 ForwardSystemIsTame = IsTame Sum 82932358 forward_system
 
+-- the pair is tame, with 5/384 for its coupling
 abbrev pub SamplePairIsTame : Type 0
 SamplePairIsTame = IsTamePair 547534606 (over (pos 5) 384) sample_pair
 
--- and with none that is less
+-- the backward system is not tame with 1/2^40 less
 abbrev pub BackwardGrowthIsLeast : Type 0
 BackwardGrowthIsLeast = ¬ IsTame Sup 280319831 backward_system
 
+-- nor is the forward system
 abbrev pub ForwardGrowthIsLeast : Type 0
 ForwardGrowthIsLeast = ¬ IsTame Sum 82932357 forward_system
 
+-- nor is the second half of the pair
 abbrev pub SecondGrowthIsLeast : Type 0
 SecondGrowthIsLeast = ¬ IsTame Sup 547534605 second_system
 
@@ -87,17 +92,19 @@ IsTwo v x y = (number_at v 0 ≡ x) × (number_at v 1 ≡ y)
 abbrev pub HalvingValueIsExact : Type 0
 HalvingValueIsExact = number_at (taylor_value halving_system (whole (pos 1) ∷ []) 3) 0 ≡ over (pos 29) 48
 
--- of degree 8 from (1, -1/2), from (3/4, 1/4), and of the pair from (1, -1/2) and (1/4, 1/2)
+-- of degree 8 from (1, -1/2)
 abbrev pub BackwardValueIsExact : Type 0
 BackwardValueIsExact = IsTwo (taylor_value backward_system (two (plus 1 1) (minus 1 2)) 8)
     (plus 102716114958459911398382374151657 101412048018258352119736256430080)
     (minus 3225759407528824899191309900278697 6388959025150276183543384155095040)
 
+-- of degree 8 from (3/4, 1/4)
 abbrev pub ForwardValueIsExact : Type 0
 ForwardValueIsExact = IsTwo (taylor_value forward_system (two (plus 3 4) (plus 1 4)) 8)
     (plus 240881835182063679703 322818021289917153280)
     (plus 81936186107853473577 322818021289917153280)
 
+-- of degree 8 of the pair's second half, from (1, -1/2) and (1/4, 1/2)
 abbrev pub SecondValueIsExact : Type 0
 SecondValueIsExact = IsTwo
     (second_taylor_value sample_pair (two (plus 1 1) (minus 1 2)) (two (plus 1 4) (plus 1 2)) 8)

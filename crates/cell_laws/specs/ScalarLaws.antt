@@ -37,13 +37,14 @@ DrivenTotals =
     → (whole (pos 2) -ℚ f) *ℚ sum_to n (λ k. v (suc k))
     ≤ℚ whole (pos 2) *ℚ f *ℚ v 0 +ℚ whole (pos 2) *ℚ sum_to n phi
 
--- the same where F is at most 1/64, and at most 1/32
+-- the same where F is at most 1/64
 abbrev pub DrivenTotalsAt64 : Type 0
 DrivenTotalsAt64 =
     (n : ℕ) (a phi v : ℕ → Fraction) → IsDriven n a (multiplied phi) v → sum_to n a ≤ℚ over (pos 1) 64
     → whole (pos 127) *ℚ sum_to n (λ k. v (suc k))
     ≤ℚ whole (pos 2) *ℚ v 0 +ℚ whole (pos 128) *ℚ sum_to n phi
 
+-- the same where F is at most 1/32
 abbrev pub DrivenTotalsAt32 : Type 0
 DrivenTotalsAt32 =
     (n : ℕ) (a phi v : ℕ → Fraction) → IsDriven n a (multiplied phi) v → sum_to n a ≤ℚ over (pos 1) 32

@@ -43,18 +43,19 @@ abbrev pub second_right_side : CoupledPair → (ℕ → Fraction) → (ℕ → F
 second_right_side p v u k = convolution (matrix_norm_at Sup p.second.matrices) u k
     +ℚ convolution (matrix_norm_at Sup p.coupling) v k +ℚ vector_norm_at Sup p.second.free k
 
--- then 8^k times the right side of a tame system is at most 1/4, of one without free vectors at most 1/8, and
--- of a tame pair's second half at most 15/32
+-- then 8^k times the right side of a tame system is at most 1/4
 abbrev pub TameRightSidesAreSmall : Type 0
 TameRightSidesAreSmall = (norm : Norm) (kappa40 : ℕ) (s : System) (v : ℕ → Fraction) (k : ℕ)
     → IsTame norm kappa40 s → IsHeldTo k v
     → weighted (right_side norm s v) k ≤ℚ over (pos 1) 4
 
+-- without free vectors it is at most 1/8
 abbrev pub HomogeneousRightSidesAreSmall : Type 0
 HomogeneousRightSidesAreSmall = (norm : Norm) (kappa40 : ℕ) (s : System) (v : ℕ → Fraction) (k : ℕ)
     → IsTame norm kappa40 s → IsHeldTo k v
     → weighted (convolution (matrix_norm_at norm s.matrices) v) k ≤ℚ over (pos 1) 8
 
+-- of a tame pair's second half it is at most 15/32
 abbrev pub SecondRightSidesAreSmall : Type 0
 SecondRightSidesAreSmall =
     (kappa40 : ℕ) (c : Fraction) (p : CoupledPair) (v u : ℕ → Fraction) (k : ℕ) → IsTamePair kappa40 c p

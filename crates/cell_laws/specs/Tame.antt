@@ -8,10 +8,11 @@ use Rattle.frac_laws.specs.Norms.{Norm, Sup, norm_of_vector, norm_of_matrix}
 use Rattle.cell_laws.specs.Systems.{System}
 use Rattle.cell_laws.specs.Pairs.{CoupledPair}
 
--- |A_m| and |g_m|
+-- |A_m|
 abbrev pub matrix_norm_at : Norm → List Matrix → ℕ → Fraction
 matrix_norm_at norm matrices m = norm_of_matrix norm (matrix_at matrices m)
 
+-- |g_m|
 abbrev pub vector_norm_at : Norm → List Vector → ℕ → Fraction
 vector_norm_at norm vectors m = norm_of_vector norm (vector_at vectors m)
 

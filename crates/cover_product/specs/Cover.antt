@@ -16,10 +16,11 @@ use Rattle.model_specs.specs.ValuationRules.{IsAdmissible}
 use Rattle.cell_bounds.specs.ScaledSystems.{scaled_pair}
 use Rattle.product_cells.specs.EachCell.{backward_cell, forward_cell, plan_scaling}
 
--- a piece of a curve, and a step of a payment, from a month on
+-- a piece of a curve from a month on, by its six coefficients
 abbrev pub curve_piece : ℕ → ℤ → ℤ → ℤ → ℤ → ℤ → ℤ → Piece
 curve_piece from c0 c1 c2 c3 c4 c5 = record { from = from; c = c0 ∷ c1 ∷ c2 ∷ c3 ∷ c4 ∷ c5 ∷ [] }
 
+-- a step of a payment from a month on, by its four coefficients
 abbrev pub payment_step : ℕ → ℤ → ℤ → ℤ → ℤ → Step
 payment_step from c0 c1 c2 c3 = record { from = from; c = c0 ∷ c1 ∷ c2 ∷ c3 ∷ [] }
 
@@ -73,16 +74,18 @@ cover = record {
 abbrev pub CoverIsAdmissible : Type 0
 CoverIsAdmissible = IsAdmissible cover
 
--- its ledgers: bound and scale of both plans, and what the months count
+-- a product's ledgers: bound, in 1/1024 minor units, and scale, of its payment plan and of its pattern
 pub record HasLedgers (product : Product) (bound g pattern_bound pattern_g : ℕ) : Type 0 where
   pub bound_is : bound1024 product (payment_plan product) ≡ bound
   pub scale_is : scale product (payment_plan product) ≡ g
   pub pattern_bound_is : bound1024 product (pattern_plan product) ≡ pattern_bound
   pub pattern_scale_is : scale product (pattern_plan product) ≡ pattern_g
 
+-- those of the cover product
 abbrev pub CoverLedgers : Type 0
 CoverLedgers = HasLedgers cover 18371192 15 2080 2
 
+-- what its two months count: the growth of a cell, in 1/2^40, and what it adds to the bound, in 1/1024 minor units
 abbrev pub CoverMonths : Type 0
 CoverMonths = (kappa40 cover 0 ≡ 3480097) × (kappa40 cover 1 ≡ 71605501)
     × (pay cover (payment_plan cover) 0 ≡ 32692) × (pay cover (payment_plan cover) 1 ≡ 33077)
@@ -100,23 +103,27 @@ abbrev pub cover_pair : CoupledPair
 cover_pair = let plan = payment_plan cover in
     scaled_pair (plan_scaling cover plan) (norberg_pair (backward_cell cover plan 1 7))
 
+-- its first half, which is Thiele's system
 abbrev pub ThieleNorms : Type 0
 ThieleNorms = HasNorms Sup cover_pair.first
     (over (pos 1528027552721) 949978046398464) (over (pos 39566537489) 24461180928000)
     (over (pos 169696800577810952801) 354577405862133891072000)
     (over (pos 3562522462732609231) 3562417673994240000)
 
+-- its second half, which is that of the second moments
 abbrev pub SecondNorms : Type 0
 SecondNorms = HasNorms Sup cover_pair.second
     (over (pos 632895779223617) 400771988324352000) (over (pos 38849488811) 24461180928000)
     (over (pos 249576665091648303580222501) 256989098600727257294009951846400)
     (over (pos 1781313625735489231) 1781208836997120000)
 
+-- its coupling: the sum of the norms, and that of the norms weighted by powers of 8
 abbrev pub CouplingNorms : Type 0
 CouplingNorms =
     (total_norm Sup cover_pair.coupling ≡ over (pos 1460343033147539413220197957) 1487205431717171627858853888000)
     × (weighted_norm Sup cover_pair.coupling ≡ over (pos 174149721680608385359) 177288702931066945536000)
 
+-- Kolmogorov's system of cell 7 of month 1, forward
 abbrev pub KolmogorovNorms : Type 0
 KolmogorovNorms = HasNorms Sum (kolmogorov_system (forward_cell cover 1 7))
     (over (pos 7008156710897) 4274901208793088) (over (pos 7054189701859) 4274901208793088) (whole (pos 0))

@@ -16,11 +16,12 @@ abbrev pub coefficient_bound : ℕ → Fraction → Fraction → Fraction → �
 coefficient_bound n h most apart zero = most
 coefficient_bound n h most apart (suc m) = whole (pos (binomial n (suc m) * 2 ^ m)) *ℚ power h (suc m) *ℚ apart
 
--- the sum of p_m / (i + m + 1); from i = 0 on it is the mean of p over [0, 1]
+-- the sum of p_m / (i + m + 1)
 abbrev pub weighted_mean : ℕ → List Fraction → Fraction
 weighted_mean i [] = whole (pos 0)
 weighted_mean i (c ∷ p) = over (pos 1) (suc i) *ℚ c +ℚ weighted_mean (suc i) p
 
+-- the mean of p over [0, 1]
 abbrev pub mean_of : List Fraction → Fraction
 mean_of p = weighted_mean 0 p
 

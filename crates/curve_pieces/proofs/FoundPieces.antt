@@ -1,5 +1,5 @@
 -- What a look-up of a curve's piece by its month gives.
-use Rattle.std.proofs.Common.{◌≡◌, ℕ, ◌+◌, ◌-◌, ℤ, List, length, get_or, arith, ap, sym, subst}
+use Rattle.std.proofs.Common.{◌≡◌, ℕ, ◌+◌, ◌-◌, ℤ, List, get_or, arith, ap, sym, subst}
 use Rattle.std.proofs.lemmas.List.{length-map}
 use Rattle.model_specs.specs.Curve as model
 use Rattle.model_specs.specs.Curve.{zero_piece, piece_at}

@@ -35,9 +35,10 @@ abbrev pub is_natural : ℤ → Bool
 is_natural (pos n) = true
 is_natural (negsuc n) = false
 
--- 0 and 1 as pairs
+-- 0 as a pair
 abbrev pub zero_pair : Pair
 zero_pair = record { top = pos 0; below = 0 }
 
+-- 1 as a pair
 abbrev pub one_pair : Pair
 one_pair = record { top = pos 1; below = 0 }

@@ -10,6 +10,7 @@ use Rattle.frac_base.proofs.Respect.{sign-same}
 abbrev pub Fraction : Type 0
 Fraction = Quot Same
 
+-- two proofs that two fractions are equal are one
 abbrev pub Fraction-set : IsSet Fraction
 Fraction-set = Quot-set
 

@@ -43,11 +43,12 @@ abbrev pub ShiftsPassStretches : Type 0
 ShiftsPassStretches = (s h : Fraction) (p : List Fraction)
     → shifted s (stretched h p) ≡ stretched h (shifted (h *ℚ s) p)
 
--- the shift of a multiple, and the stretch of one
+-- the shift of a multiple is the multiple of the shift
 abbrev pub ShiftsPassMultiples : Type 0
 ShiftsPassMultiples = (b c : Fraction) (p : List Fraction)
     → shifted b (scale_list c p) ≡ scale_list c (shifted b p)
 
+-- the stretch of a multiple is the multiple of the stretch
 abbrev pub StretchesPassMultiples : Type 0
 StretchesPassMultiples = (h c : Fraction) (p : List Fraction)
     → stretched h (scale_list c p) ≡ scale_list c (stretched h p)

@@ -47,9 +47,10 @@ QuotientsTimesDivisor = (n : ℤ) (d : ℕ) → 1 ≤ d → whole (pos d) *ℚ o
 abbrev pub WholeNumbersCompare : Type 0
 WholeNumbersCompare = (n m : ℤ) → (whole n ≤ℚ whole m) ↔ (n ≤ℤ m)
 
--- whole numbers add and multiply as fractions as they do as whole numbers
+-- whole numbers add as fractions as they do as whole numbers
 abbrev pub WholeNumbersAdd : Type 0
 WholeNumbersAdd = (n m : ℤ) → whole n +ℚ whole m ≡ whole (n +ℤ m)
 
+-- whole numbers multiply as fractions as they do as whole numbers
 abbrev pub WholeNumbersMultiply : Type 0
 WholeNumbersMultiply = (n m : ℤ) → whole n *ℚ whole m ≡ whole (n *ℤ m)

@@ -13,17 +13,19 @@ use Rattle.ledger_laws.specs.GrowthLaws.{greatest_radius}
 abbrev pub month_ending : Product → ℕ → ℕ
 month_ending product months = product.months - suc months
 
--- the first radius, the bound and the second radius after some cells of that month, from its end on
+-- the first radius after some cells of that month, from its end on
 abbrev pub radius_cells : Product → ℕ → ℕ → ℕ
 radius_cells product months cells =
     grow_cells (kappa40 product (month_ending product months)) 1024 (radius_before_term product months) cells
 
+-- the bound after some cells of that month, with the lumps of its end, in 1/1024 minor units
 abbrev pub bound_cells : Product → Plan → ℕ → ℕ → ℕ
 bound_cells product plan months cells =
     let month = month_ending product months in
     grow_cells (kappa40 product month) (pay product plan month)
     (bound_before_term product plan months + 1024 * greatest_lump product plan (suc month)) cells
 
+-- the second radius after some cells of that month, with what the lumps of its end add; G is 2^scale
 abbrev pub second_cells : Product → Plan → ℕ → ℕ → ℕ → ℕ
 second_cells product plan G months cells =
     let month = month_ending product months in
@@ -39,6 +41,7 @@ pub record KeepsRadiusSmall (product : Product) : Type 0 where
   pub cells : (months cells : ℕ) → months < product.months → cells ≤ 32
       → radius_cells product months cells ≤ greatest_radius
 
+-- it stays so small where rules 15 to 17 hold in each month
 abbrev pub RadiusStaysSmallBeforeTerm : Type 0
 RadiusStaysSmallBeforeTerm = (product : Product) → IsWellFormed product → ObeysAllMonths product
     → KeepsRadiusSmall product
@@ -55,6 +58,7 @@ pub record KeepsFourfold (product : Product) (plan : Plan) (G : ℕ) : Type 0 wh
   pub cells : (months cells : ℕ) → months < product.months → cells ≤ 32
       → second_cells product plan G months cells ≤ 4 * radius_cells product months cells + 5
 
+-- at most four times the first, and 5 more inside a month, where those rules hold and the bound is within 1024 G
 abbrev pub SecondIsFourfoldBeforeTerm : Type 0
 SecondIsFourfoldBeforeTerm = (product : Product) (plan : Plan) (G : ℕ) → IsWellFormed product
     → ObeysAllMonths product → 1 ≤ G → bound1024 product plan ≤ 1024 * G → KeepsFourfold product plan G

@@ -5,10 +5,11 @@ use Rattle.model_specs.specs.Payments.{Plan}
 use Rattle.model_specs.specs.Growth.{kappa40, pay, greatest_sum}
 use Rattle.model_specs.specs.Ledgers.{grow_cells, greatest_lump, bound_before_term, bound1024, scale}
 
--- the bound ledger at a date, before the date's lumps and with them
+-- the bound ledger at a date, before the date's lumps
 abbrev pub bound_at : Product → Plan → ℕ → ℕ
 bound_at product plan date = bound_before_term product plan (product.months - date)
 
+-- the bound ledger at a date with the date's lumps
 abbrev pub bound_with_lumps : Product → Plan → ℕ → ℕ
 bound_with_lumps product plan date = bound_at product plan date + 1024 * greatest_lump product plan date
 
@@ -40,10 +41,11 @@ pub record AddsPartsWithin (product : Product) (plan : Plan) (limit : ℕ) : Typ
   pub lumps : (date : ℕ) → date ≤ product.months → 1024 * greatest_lump product plan date ≤ limit
   pub sums : 1024 * greatest_sum product plan ≤ limit
 
--- the limit is the bound
+-- no value of the ledger is above the bound
 abbrev pub BoundIsGreatest : Type 0
 BoundIsGreatest = (product : Product) (plan : Plan) → StaysWithin product plan (bound1024 product plan)
 
+-- and no part of it is
 abbrev pub BoundHasAllParts : Type 0
 BoundHasAllParts = (product : Product) (plan : Plan) → AddsPartsWithin product plan (bound1024 product plan)
 
@@ -53,10 +55,12 @@ ScaleBoundsLedger = (product : Product) (plan : Plan)
     → (bound1024 product plan ≤ 1024 * 2 ^ scale product plan)
     × StaysWithin product plan (1024 * 2 ^ scale product plan)
 
+-- the parts by a largest amount in minor units: what the months pay, what each date pays, and the sums
 pub record ScalesParts (product : Product) (plan : Plan) (largest : ℕ) : Type 0 where
   pub pays : (month : ℕ) → month < product.months → pay product plan month ≤ 32 * largest
   pub lumps : (date : ℕ) → date ≤ product.months → greatest_lump product plan date ≤ largest
   pub sums : greatest_sum product plan ≤ largest
 
+-- G is such an amount
 abbrev pub ScaleBoundsParts : Type 0
 ScaleBoundsParts = (product : Product) (plan : Plan) → ScalesParts product plan (2 ^ scale product plan)

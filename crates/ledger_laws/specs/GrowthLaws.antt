@@ -34,6 +34,7 @@ pub record HasSmallRadii (product : Product) (date : ℕ) : Type 0 where
   pub backward_below : radius product date < 2 ^ 39
   pub forward_below : radius_forward product date < 2 ^ 39
 
+-- they are so small at each date of the term where rules 15 to 17 hold in each month
 abbrev pub RadiiStaySmall : Type 0
 RadiiStaySmall = (product : Product) → IsWellFormed product → ObeysAllMonths product
     → (date : ℕ) → date ≤ product.months → HasSmallRadii product date
@@ -48,6 +49,7 @@ pub record HasSmallRadiiInside (product : Product) (month cells : ℕ) : Type 0 
   pub backward : grow_cells (kappa40 product month) 1024 (radius product (suc month)) cells ≤ greatest_radius
   pub forward : grow_cells (kappa40 product month) 1024 (radius_forward product month) cells ≤ greatest_radius
 
+-- and there they are so small inside each month
 abbrev pub RadiiStaySmallInside : Type 0
 RadiiStaySmallInside = (product : Product) → IsWellFormed product → ObeysAllMonths product
     → (month cells : ℕ) → month < product.months → cells ≤ 32 → HasSmallRadiiInside product month cells

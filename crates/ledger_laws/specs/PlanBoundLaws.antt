@@ -24,6 +24,7 @@ pub record HasSmallBound (product : Product) : Type 0 where
   pub bound : bound1024 product (payment_plan product) < 2 ^ 80
   pub scale : scale product (payment_plan product) ≤ 70
 
+-- so it is where rules 15 to 17 hold in each month
 abbrev pub PaymentBoundStaysSmall : Type 0
 PaymentBoundStaysSmall = (product : Product) → IsWellFormed product → ObeysAllMonths product
     → HasSmallBound product
@@ -39,6 +40,7 @@ pub record HasSmallPattern (product : Product) : Type 0 where
   pub below : bound1024 product (pattern_plan product) < 2 ^ 39
   pub scale : scale product (pattern_plan product) ≤ 26
 
+-- they are so small where rules 15 to 17 hold in each month
 abbrev pub PatternBoundStaysSmall : Type 0
 PatternBoundStaysSmall = (product : Product) → IsWellFormed product → ObeysAllMonths product
     → HasSmallPattern product

@@ -9,10 +9,11 @@ use Rattle.model_specs.specs.RecordRules.{IsWellFormed}
 use Rattle.ledger_laws.specs.MonthLaws.{ObeysAllMonths}
 use Rattle.ledger_laws.specs.GrowthLaws.{greatest_radius}
 
--- the second radius at a date, before the date's lumps and with them; G is 2^scale
+-- the second radius at a date, before the date's lumps; G is 2^scale
 abbrev pub second_at : Product → Plan → ℕ → ℕ → ℕ
 second_at product plan G date = second_before_term product plan G (product.months - date)
 
+-- the second radius at a date with what the date's lumps add
 abbrev pub second_with_lumps : Product → Plan → ℕ → ℕ → ℕ
 second_with_lumps product plan G date = second_at product plan G date
     + date_adds (lumps_at (length product.states) plan date) (greatest_lump product plan date)
@@ -55,6 +56,7 @@ pub record HasSmallSecond (product : Product) (G : ℕ) : Type 0 where
   pub cells : (month cells : ℕ) → month < product.months → cells ≤ 32
       → second_inside product (payment_plan product) G month cells ≤ 4 * greatest_radius + 5
 
+-- they are so small where rules 15 to 17 hold in each month, for the G of the payment plan
 abbrev pub SecondStaysSmall : Type 0
 SecondStaysSmall = (product : Product) → IsWellFormed product → ObeysAllMonths product
     → HasSmallSecond product (2 ^ scale product (payment_plan product))

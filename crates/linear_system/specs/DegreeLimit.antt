@@ -21,6 +21,7 @@ abbrev pub greatest_power_to : StoredSystem → ℕ → ℕ
 greatest_power_to s zero = 0
 greatest_power_to s (suc m) = cond (is_empty_at s (suc m)) (greatest_power_to s m) (suc m)
 
+-- the greatest power of all at which a number other than 0 is stored
 abbrev pub greatest_power : StoredSystem → ℕ
 greatest_power s = greatest_power_to s s.degree
 

@@ -20,6 +20,7 @@ dim_of s = length s.rows
 abbrev pub no_row : StoredRow
 no_row = record { columns = []; numbers = [] }
 
+-- the row at a place
 abbrev pub row_of : StoredSystem → ℕ → StoredRow
 row_of s row = slice_index_or s.rows row no_row
 

@@ -41,8 +41,10 @@ abbrev pub OfBothPlans : (Product → Plan → ℕ → Type 0) → Type 0
 OfBothPlans Says = (product : Product) (n : ℕ) → IsAdmissible product → 6 ≤ n
     → Says product (payment_plan product) n × Says product (pattern_plan product) n
 
+-- the bound ledger carries the first moments of each admissible product
 abbrev pub LedgerCarriesReserves : Type 0
 LedgerCarriesReserves = OfBothPlans KeepsLedger
 
+-- the first moments of each admissible product stay within the scale
 abbrev pub ReservesStayWithinScale : Type 0
 ReservesStayWithinScale = OfBothPlans StaysWithinScale

@@ -69,8 +69,10 @@ OfEachRun Says = (product : Product) (n begin : ℕ) (v : Vector) → IsAdmissib
     → (BeginsWithinLedger product (payment_plan product) begin v → Says product (payment_plan product) n begin v)
     × (BeginsWithinLedger product (pattern_plan product) begin v → Says product (pattern_plan product) n begin v)
 
+-- the bound ledger carries each of them
 abbrev pub LedgerCarriesRuns : Type 0
 LedgerCarriesRuns = OfEachRun KeepsLedgerFrom
 
+-- each of them stays within the scale
 abbrev pub RunsStayWithinScale : Type 0
 RunsStayWithinScale = OfEachRun StaysWithinScaleFrom

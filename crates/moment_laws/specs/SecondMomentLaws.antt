@@ -27,6 +27,7 @@ moments_back pair n cells v zero = v
 moments_back pair n cells v (suc done) =
     moments_over_cell (pair (cells - suc done)) n (moments_back pair n cells v done)
 
+-- a month backward is all of its cells, one after another
 abbrev pub MomentsGoByCells : Type 0
 MomentsGoByCells = (pair : ℕ → CoupledPair) (n cells : ℕ) (v : Moments)
     → moments_month_back pair n cells v ≡ moments_back pair n cells v cells
@@ -49,6 +50,7 @@ pub record CarriesMoments (product : Product) (plan : Plan) (n : ℕ) : Type 0 w
   pub cells : (months done : ℕ) → months < product.months → done ≤ 32
       → IsCarried (bound_cells product plan months done) (moments_after_cells product plan n months done)
 
+-- so it does for each admissible product
 abbrev pub LedgerCarriesMoments : Type 0
 LedgerCarriesMoments = OfBothPlans CarriesMoments
 
@@ -63,6 +65,7 @@ pub record PairStaysWithinScale (product : Product) (n : ℕ) : Type 0 where
       → norm_of_vector Sup (moments_after_cells product (payment_plan product) n months done).second
       ≤ℚ whole (pos (4 ^ scale product (payment_plan product)))
 
+-- so they do for each admissible product in each degree from 6 on
 abbrev pub SecondMomentsStayWithinScale : Type 0
 SecondMomentsStayWithinScale =
     (product : Product) (n : ℕ) → IsAdmissible product → 6 ≤ n → PairStaysWithinScale product n

@@ -1,5 +1,5 @@
 -- What a look-up of a step by its month gives.
-use Rattle.std.proofs.Common.{◌≡◌, ℕ, ◌+◌, ◌-◌, ◌<◌, ◌≤◌, ℤ, pos, List, [], ◌∷◌, length, get_or}
+use Rattle.std.proofs.Common.{◌≡◌, ℕ, ◌+◌, ◌-◌, ◌≤◌, ℤ, pos, List, [], ◌∷◌, length, get_or}
 use Rattle.std.proofs.Common.{arith, refl, ap, sym, subst}
 use Rattle.std.proofs.lemmas.List.{length-map}
 use Rattle.model_specs.specs.Product.{Step}

@@ -1,6 +1,6 @@
 //! Amounts in a cell of a month.
 
-ghost use Rattle.std.specs.Prelude.{◌≡◌, ℕ, ◌+◌, ◌-◌, ◌^◌, ◌<◌, ◌≤◌, pos, ◌*ℤ◌, [], ◌∷◌, ◌++◌};
+ghost use Rattle.std.specs.Prelude.{◌≡◌, ◌+◌, ◌-◌, ◌^◌, ◌<◌, ◌≤◌, pos, ◌*ℤ◌, [], ◌∷◌, ◌++◌};
 ghost use Rattle.frac_laws.specs.Polynomials.{all_over};
 ghost use Rattle.poly_small.specs.WholePolynomials.{value_of_sizes, in_units_of};
 ghost use Rattle.named_numbers.specs.Numbers.{most_months, cells_of_month, cells_of_year};

@@ -1,6 +1,6 @@
 //! The lumps of each date, in order of states.
 
-ghost use Rattle.std.specs.Prelude.{◌≡◌, ℕ, suc, ◌+◌, ◌*◌, ◌<◌, ◌≤◌, All, None, IfOk, [], length, slice_index_or};
+ghost use Rattle.std.specs.Prelude.{◌≡◌, ℕ, suc, ◌+◌, ◌*◌, ◌<◌, ◌≤◌, All, None, IfOk, length, slice_index_or};
 ghost use Rattle.named_numbers.specs.Numbers.{most_months, most_states};
 ghost use Rattle.model_specs.specs.Whole.{list_of};
 ghost use Rattle.payment_plan.specs.Records.{lumps_of};

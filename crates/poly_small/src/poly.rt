@@ -1,6 +1,6 @@
 //! Polynomials of degree at most five.
 
-ghost use Rattle.std.specs.Prelude.{◌≡◌, ℕ, ◌+◌, ◌*◌, ◌^◌, ◌<◌, ◌≤◌, pos, max, ◌*ℤ◌, unsigned_abs};
+ghost use Rattle.std.specs.Prelude.{◌≡◌, ℕ, ◌*◌, ◌^◌, ◌<◌, ◌≤◌, pos, max, ◌*ℤ◌, unsigned_abs};
 ghost use Rattle.frac_laws.specs.Fraction.{over, whole};
 ghost use Rattle.frac_laws.specs.Polynomials.{all_over, shifted, stretched, reflected};
 ghost use Rattle.poly_small.specs.WholePolynomials.{value_of_sizes, in_units_of};

@@ -56,6 +56,7 @@ pub record AddUpFrom (product : Product) (n date state months cells : ℕ) : Typ
       → norm_of_vector Sum (probabilities_from_cells product n date (all_in product state) months cells)
       ≤ℚ whole (pos 2)
 
+-- so it is for each admissible product
 abbrev pub FromAnyState : Type 0
 FromAnyState = (product : Product) (n date state months cells : ℕ) → IsAdmissible product
     → state < length product.states → AddUpFrom product n date state months cells

@@ -19,6 +19,7 @@ pub record HasSmallForward (s : System) : Type 0 where
   pub later : sum_to 5 (λ m. matrix_norm_at Sum s.matrices (1 + m)) ≤ℚ over (pos 1) 512
   pub mean : one_factor_norm Sum s ≤ℚ whole (pos 1)
 
+-- each forward cell of an admissible product has this
 abbrev pub ForwardCellsAreSmall : Type 0
 ForwardCellsAreSmall = (product : Product) (month cell : ℕ) → IsAdmissible product → month < product.months
     → cell < 32 → HasSmallForward (kolmogorov_system (forward_cell product month cell))
@@ -35,10 +36,12 @@ abbrev pub probabilities_after : Product → (n month cells : ℕ) → Vector
 probabilities_after product n month cells =
     month_forward (λ cell. kolmogorov_system (forward_cell product month cell)) n cells (probabilities product n month)
 
+-- they add up to 1, in every degree
 abbrev pub ProbabilitiesAddUpToOne : Type 0
 ProbabilitiesAddUpToOne = (product : Product) (n month cells : ℕ) → IsAdmissible product
     → sum_of_list (probabilities_after product n month cells) ≡ whole (pos 1)
 
+-- from degree 8 on their sizes add up to at most 76800 / (76800 - c) after c cells, and to at most 2
 abbrev pub ProbabilitiesStaySmall : Type 0
 ProbabilitiesStaySmall = (product : Product) (n month cells : ℕ) → IsAdmissible product → 8 ≤ n
     → month < product.months → cells ≤ 32

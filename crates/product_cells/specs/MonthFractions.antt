@@ -9,13 +9,15 @@ use Rattle.model_specs.specs.Growth.{phi40, kappa40, load, state_pay, greatest_s
 use Rattle.model_specs.specs.Cells.{transition_between}
 use Rattle.cell_bounds.specs.CellBounds.{MonthBounds, PlanBounds}
 
--- rho, iota and nu of a month, a year
+-- rho of a month: the greatest sum of the rates of a state's exits, a year
 abbrev pub rho_of : Product → ℕ → Fraction
 rho_of product month = over (pos (natural_part (rho product month))) (month_unit product)
 
+-- iota of a month: the greatest size of the force of interest, a year
 abbrev pub iota_of : Product → ℕ → Fraction
 iota_of product month = over (pos (iota product month)) (month_unit product)
 
+-- nu of a month: how far the force of interest goes below 0, a year
 abbrev pub nu_of : Product → ℕ → Fraction
 nu_of product month = over (pos (nu product month)) (month_unit product)
 
@@ -36,40 +38,46 @@ found_value h (Some e) = h e
 abbrev pub rates_of : Product → ℕ → ℕ → ℕ → Fraction
 rates_of product month i j = found_value (rate_of product month) (transition_between product i j)
 
--- the load of a state's sojourn rate, and of the sum that a transition between two states pays
+-- the load of a state's sojourn rate, in minor units a year
 abbrev pub rate_loads : Plan → ℕ → ℕ → Fraction
 rate_loads plan month i = whole (pos (load (sojourn_at plan i month) month))
 
+-- the load of the sum that a transition pays, in minor units
 abbrev pub load_of : Plan → ℕ → ℕ → Fraction
 load_of plan month e = whole (pos (load (sum_at plan e month) month))
 
+-- that of the transition between two states, 0 where there is none
 abbrev pub sum_loads : Product → Plan → ℕ → ℕ → ℕ → Fraction
 sum_loads product plan month i j = found_value (load_of plan month) (transition_between product i j)
 
--- the greatest size of a payment's amounts over a month, and how far they are apart, over 2488320
+-- the greatest size of a payment's amounts over a month, over 2488320
 abbrev pub size_of_step : Step → ℕ → ℕ
 size_of_step step month = greatest_natural (map unsigned_abs (bernstein_numerators step.c (month - step.from)))
 
+-- how far they are apart, over 2488320
 abbrev pub spread_of_step : Step → ℕ → ℕ
 spread_of_step step month =
     let b = bernstein_numerators step.c (month - step.from) in natural_part (greatest_whole b -ℤ least_whole b)
 
+-- the greatest size of the sum of the transition between two states, in minor units
 abbrev pub sum_sizes : Product → Plan → ℕ → ℕ → ℕ → Fraction
 sum_sizes product plan month i j =
     found_value (λ e. over (pos (size_of_step (sum_at plan e month) month)) 2488320) (transition_between product i j)
 
+-- how far the amounts of that sum are apart, in minor units
 abbrev pub sum_spreads : Product → Plan → ℕ → ℕ → ℕ → Fraction
 sum_spreads product plan month i j =
     found_value (λ e. over (pos (spread_of_step (sum_at plan e month) month)) 2488320) (transition_between product i j)
 
--- x: the most that a state pays, a year
+-- the most that a state pays, a year, over the month's denominator
 abbrev pub most_paid_of : Product → Plan → ℕ → ℕ
 most_paid_of product plan month = greatest_natural (list_of (length product.states) (state_pay product plan month))
 
+-- x: the most that a state pays, in minor units a year
 abbrev pub most_paid : Product → Plan → ℕ → Fraction
 most_paid product plan month = over (pos (most_paid_of product plan month)) (month_unit product)
 
--- the numbers of a month together, and those of a plan in it
+-- the numbers of a month together
 abbrev pub month_bounds : Product → ℕ → MonthBounds
 month_bounds product month = record {
   rates = rates_of product month;
@@ -80,6 +88,7 @@ month_bounds product month = record {
   kappa40 = kappa40 product month;
 }
 
+-- those of a plan in a month together
 abbrev pub plan_bounds : Product → Plan → ℕ → PlanBounds
 plan_bounds product plan month = record {
   rate = rate_loads plan month;

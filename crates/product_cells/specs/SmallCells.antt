@@ -19,12 +19,13 @@ MonthsAreSmall = (product : Product) (month : ℕ) → IsAdmissible product → 
     × CountsGrowth (rho_of product month) (iota_of product month) (nu_of product month) (phi_of product month)
     (kappa40 product month)
 
--- curves and payments, in cells of both directions
+-- the curves of cells of both directions
 abbrev pub CellsHaveSmallCurves : Type 0
 CellsHaveSmallCurves = (direction : Direction) → InEachCell (λ product plan month cell.
     HasSmallCurves (cell_of direction product plan month cell) (rates_of product month) (rho_of product month)
     (iota_of product month) (nu_of product month))
 
+-- the payments of cells of both directions
 abbrev pub CellsHaveSmallPayments : Type 0
 CellsHaveSmallPayments = (direction : Direction) → InEachCell (λ product plan month cell.
     HasSmallPayments (cell_of direction product plan month cell) (rates_of product month) (rate_loads plan month)
@@ -38,5 +39,6 @@ pub record LeavesRoom (product : Product) (plan : Plan) (month : ℕ) : Type 0 w
   pub room : whole (pos (greatest_sum product plan)) +ℚ over (pos 1) 6 *ℚ most_paid product plan month
       ≤ℚ whole (pos (2 ^ scale product plan))
 
+-- so it is in each month of an admissible product
 abbrev pub ScalesLeaveRoom : Type 0
 ScalesLeaveRoom = InEachCell (λ product plan month cell. LeavesRoom product plan month)

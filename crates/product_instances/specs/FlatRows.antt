@@ -24,12 +24,12 @@ two_rooms start months sojourns lumps pattern = record {
   pattern = pattern;
 }
 
--- one month from the second state, with 12 a year in the first and 24 in the second, and 7 and 9 at issue: a value is
--- that of the start, 2 and 9
+-- one month from the second state, with 12 a year in the first and 24 in the second, and 7 and 9 at issue
 abbrev pub from_second : Product
 from_second = two_rooms 1 1 (steady 0 (pos 12) ∷ steady 1 (pos 24) ∷ [])
     (record { month = 0; state = 0; amount = pos 7 } ∷ record { month = 0; state = 1; amount = pos 9 } ∷ []) no_pattern
 
+-- its value is that of the start state, 2 and 9
 abbrev pub ValueOfTheStart : Type 0
 ValueOfTheStart = (n : ℕ) → value_before_issue from_second (payment_plan from_second) (suc n) ≡ whole (pos 11)
 
@@ -41,10 +41,11 @@ paid_by payer = two_rooms 0 12 (steady 0 (pos 384) ∷ []) [] (record { payers =
 abbrev pub first_row : RowKind → (lo hi : ℤ) → Row
 first_row kind lo hi = record { kind = kind; month = 0; state = 0; lo = lo; hi = hi }
 
--- the premium is 384: a row says so in millionths, and one that says more holds from no degree on
+-- the premium is 384: a row says so in millionths
 abbrev pub PremiumHolds : Type 0
 PremiumHolds = Holds (first_row Premium (pos 384000000) (pos 384000000)) (paid_by 0) 1
 
+-- a row that says more holds from no degree on
 abbrev pub HigherPremiumDoesNotHold : Type 0
 HigherPremiumDoesNotHold = (least : ℕ) → ¬ Holds (first_row Premium (pos 384000001) (pos 385000000)) (paid_by 0) least
 
@@ -52,10 +53,11 @@ HigherPremiumDoesNotHold = (least : ℕ) → ¬ Holds (first_row Premium (pos 38
 abbrev pub NoPremiumHolds : Type 0
 NoPremiumHolds = (lo hi : ℤ) (least : ℕ) → ¬ Holds (first_row Premium lo hi) (paid_by 1) least
 
--- 100 at the end of a month: the second moment is 100^2 in squared minor units, first moments are in millionths
+-- 100 at the end of a month
 abbrev pub certain_lump : Product
 certain_lump = steady_product 1 (pos 0) (lump_on 1 (pos 100))
 
+-- its second moment is 100^2 in squared minor units, its variance 0, and its first moments are in millionths
 abbrev pub CertainRowsHold : Type 0
 CertainRowsHold = Holds (first_row Second (pos 10000) (pos 10000)) certain_lump 1
     × Holds (first_row Variance (pos 0) (pos 0)) certain_lump 1

@@ -10,10 +10,11 @@ use Rattle.model_specs.specs.Cells.{CellCurves, Direction, Forward, Backward, Gr
 use Rattle.model_specs.specs.Systems.{vector_of, norberg_pair, kolmogorov_system}
 use Rattle.model_specs.specs.Runs.{Moments, first_before_term, before_lumps, moments_month_back, month_forward}
 
--- a piece c_0 + c_1 t of a curve, and a step of a payment, from a month on
+-- a piece c_0 + c_1 t of a curve, from a month on
 abbrev pub linear_piece : ℕ → ℤ → ℤ → Piece
 linear_piece from c0 c1 = record { from = from; c = c0 ∷ c1 ∷ pos 0 ∷ pos 0 ∷ pos 0 ∷ pos 0 ∷ [] }
 
+-- a step c_0 + c_1 t of a payment, from a month on
 abbrev pub linear_step : ℕ → ℤ → ℤ → Step
 linear_step from c0 c1 = record { from = from; c = c0 ∷ c1 ∷ pos 0 ∷ pos 0 ∷ [] }
 
@@ -50,6 +51,7 @@ further = record {
   pattern = no_pattern;
 }
 
+-- its payment plan
 abbrev pub further_plan : Plan
 further_plan = payment_plan further
 
@@ -57,9 +59,11 @@ further_plan = payment_plan further
 abbrev pub two_cells : Direction → Grid
 two_cells direction = record { cells = 2; direction = direction }
 
+-- a cell of its payment plan, where x counts backward
 abbrev pub cell_back : ℕ → ℕ → CellCurves
 cell_back month cell = cell_curves (two_cells Backward) further further_plan month cell
 
+-- a cell of its payment plan, where x counts forward
 abbrev pub cell_forward : ℕ → ℕ → CellCurves
 cell_forward month cell = cell_curves (two_cells Forward) further further_plan month cell
 
@@ -81,37 +85,41 @@ probabilities_at zero = vector_of 3 (λ j. if j == further.start then whole (pos
 probabilities_at (suc month) =
     month_forward (λ cell. kolmogorov_system (cell_forward month cell)) 2 2 (probabilities_at month)
 
--- the reserves of dead, well and ill at dates 2, 1 and 0
+-- the reserves of dead, well and ill at date 2
 abbrev pub FurtherReservesAt2 : Type 0
 FurtherReservesAt2 = reserves_before 1 ≡
     whole (pos 0) ∷ over (pos 2438141143873) 23592960000 ∷ over (pos 1175966717) 393216000 ∷ []
 
+-- at date 1
 abbrev pub FurtherReservesAt1 : Type 0
 FurtherReservesAt1 = reserves_before 2 ≡
     over (pos 1480176216967) 21233664000 ∷ over (pos 3604797179266430695193) 61847529062400000000
     ∷ over (pos 498623764110390692477) 83494164234240000000 ∷ []
 
+-- at date 0
 abbrev pub FurtherReservesAt0 : Type 0
 FurtherReservesAt0 = reserves_before 3 ≡
     over (pos 312988804753534208382727) 4508684868648960000000
     ∷ over (pos 6540562241245970604680679588784973) 94553974896569037619200000000000
     ∷ over (pos 864717932666935604181845560951037) 17728870293106694553600000000000 ∷ []
 
--- the second moments at dates 2 and 1
+-- the second moments at date 2
 abbrev pub FurtherMomentsAt2 : Type 0
 FurtherMomentsAt2 = (moments_before 1).second ≡
     whole (pos 0) ∷ over (pos 114074180912803) 10616832000 ∷ over (pos 3669147) 409600 ∷ []
 
+-- at date 1
 abbrev pub FurtherMomentsAt1 : Type 0
 FurtherMomentsAt1 = (moments_before 2).second ≡
     over (pos 644884484209) 132710400 ∷ over (pos 7856008836771647131480507) 2254342434324480000000
     ∷ over (pos 229914326619208357) 6442450944000000 ∷ []
 
--- the probabilities at dates 1 and 2
+-- the probabilities at date 1
 abbrev pub FurtherProbabilitiesAt1 : Type 0
 FurtherProbabilitiesAt1 = probabilities_at 1 ≡
     over (pos 350393123) 56623104000 ∷ over (pos 55571890711) 56623104000 ∷ over (pos 116803361) 9437184000 ∷ []
 
+-- at date 2
 abbrev pub FurtherProbabilitiesAt2 : Type 0
 FurtherProbabilitiesAt2 = probabilities_at 2 ≡
     over (pos 24720563570692384409) 3005789912432640000000 ∷ over (pos 731376532197594964951) 751447478108160000000

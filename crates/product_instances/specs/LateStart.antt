@@ -26,5 +26,6 @@ late_start = record {
   pattern = no_pattern;
 }
 
+-- at date 1 the probability of the first state is still 1, in every degree
 abbrev pub NobodyHasLeft : Type 0
 NobodyHasLeft = (n : ℕ) → probability late_start n 1 0 ≡ whole (pos 1)

@@ -17,10 +17,11 @@ pub record RowsCheckAs (product : Product) (month reserve second variance occupa
   pub variance_is : tolerance product (row_of Variance month) ≡ variance
   pub occupancy_is : tolerance product (row_of Occupancy month) ≡ occupancy
 
--- each by its own month: in the middle of the term and at issue
+-- each by its own month: in the middle of the term
 abbrev pub RowsInTheMiddle : Type 0
 RowsInTheMiddle = RowsCheckAs at_the_limits 12 768788 16622899167234 43689313304578 3
 
+-- and at issue
 abbrev pub RowsAtIssue : Type 0
 RowsAtIssue = RowsCheckAs at_the_limits 0 1580102 36978494013442 92590468759554 2
 

@@ -24,12 +24,13 @@ two_months interest transitions = record {
 abbrev pub link : ℕ → ℕ → List Piece → Transition
 link from to rate = record { from = from; to = to; rate = rate; sum = [] }
 
--- rule 17 adds up the exits of a state: two exits of 3/2 a year are refused, two entries of 3/2 taken
+-- rule 17 adds up the exits of a state: two exits of 3/2 a year are refused
 abbrev pub TwoExits : Type 0
 TwoExits = first_broken (two_months (constant_curve (pos 0))
     (link 0 1 (constant_curve (pos 1500000)) ∷ link 0 2 (constant_curve (pos 1500000)) ∷ []))
     ≡ Some (record { rule = 17; place = 0 })
 
+-- it does not add up entries: two entries of 3/2 a year are taken
 abbrev pub TwoEntries : Type 0
 TwoEntries = first_broken (two_months (constant_curve (pos 0))
     (link 1 0 (constant_curve (pos 1500000)) ∷ link 2 0 (constant_curve (pos 1500000)) ∷ [])) ≡ None

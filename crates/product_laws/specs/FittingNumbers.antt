@@ -26,5 +26,6 @@ pub record HasFittingNumbers (product : Product) (plan : Plan) (month cell : ℕ
       → size (plan_scaling product plan *ℚ coupling_entry (backward_cell product plan month cell) m i i)
       ≤ℚ over (pos 1) 32
 
+-- so it is in each cell of an admissible product
 abbrev pub NumbersFit : Type 0
 NumbersFit = InEachCell HasFittingNumbers

@@ -43,5 +43,6 @@ abbrev pub CellsAreSparse : Type 0
 CellsAreSparse = (grid : Grid) (product : Product) (plan : Plan) (month cell : ℕ)
     → IsSparse product (cell_curves grid product plan month cell)
 
+-- every cell has these degrees
 abbrev pub CellsHaveJobDegrees : Type 0
 CellsHaveJobDegrees = (cell : CellCurves) → HasJobDegrees cell

@@ -32,10 +32,11 @@ abbrev pub KolmogorovCellsAreTame : Type 0
 KolmogorovCellsAreTame = (product : Product) (month cell : ℕ) → IsAdmissible product → month < product.months
     → cell < 32 → IsTame Sum (kappa40 product month) (kolmogorov_system (forward_cell product month cell))
 
--- Norberg's pair of a cell, with the coupling 2 pay / (1024 G)
+-- the coupling of a month: 2 pay / (1024 G)
 abbrev pub coupling_of : Product → Plan → ℕ → Fraction
 coupling_of product plan month = over (pos (2 * pay product plan month)) (1024 * 2 ^ scale product plan)
 
+-- Norberg's pair of a cell, with this coupling
 abbrev pub NorbergPairsAreTame : Type 0
 NorbergPairsAreTame = (product : Product) (month cell : ℕ) → IsAdmissible product → month < product.months
     → cell < 32 → let plan = payment_plan product in

@@ -1,6 +1,6 @@
 //! Ledgers over some cells of a month.
 
-ghost use Rattle.std.specs.Prelude.{◌≡◌, ℕ, ◌*◌, ◌^◌, ◌<◌, ◌≤◌};
+ghost use Rattle.std.specs.Prelude.{◌≡◌, ℕ, ◌*◌, ◌^◌, ◌≤◌};
 ghost use Rattle.model_specs.specs.Ledgers as ledgers;
 ghost use Rattle.rate_bounds.specs.SecondCells.{SecondFits};
 

@@ -1,6 +1,6 @@
 //! The bound ledger of a plan.
 
-ghost use Rattle.std.specs.Prelude.{◌≡◌, ℕ, ◌^◌, ◌<◌, ◌≤◌};
+ghost use Rattle.std.specs.Prelude.{◌≡◌, ◌^◌, ◌<◌, ◌≤◌};
 ghost use Rattle.model_specs.specs.Ledgers as ledgers;
 ghost use Rattle.model_specs.specs.RecordRules.{IsWellFormed};
 ghost use Rattle.frac_laws.specs.Ledger.{scale_of_bound};

@@ -49,10 +49,11 @@ window_bound m = units 64 *ℚ power (whole (pos 8)) m
 abbrev pub HasWindow : (degree d : ℕ) → (ℕ → Vector) → Type 0
 HasWindow degree d z = (m i : ℕ) → m ≤ d → size (number_at (z (degree - m)) i) ≤ℚ window_bound m
 
--- above power d the matrices, and the free vectors, have no number other than 0
+-- above power d the matrices have no number other than 0
 abbrev pub AreEmptyAbove : ℕ → List Matrix → Type 0
 AreEmptyAbove d matrices = (m row col : ℕ) → d < m → entry_at matrices m row col ≡ whole (pos 0)
 
+-- above power d the free vectors have no number other than 0
 abbrev pub VectorsAreEmptyAbove : ℕ → List Vector → Type 0
 VectorsAreEmptyAbove d vectors = (m row : ℕ) → d < m → number_at (vector_at vectors m) row ≡ whole (pos 0)
 

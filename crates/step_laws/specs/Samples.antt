@@ -38,13 +38,15 @@ stored_system = record {
       ∷ two_units (pos 0) (pos 16769767339735956) ∷ [];
 }
 
--- the start (5/3, -6/7), the same rounded down, and the sum of its 25 coefficients
+-- the start (5/3, -6/7)
 abbrev pub sample_start : Vector
 sample_start = two (plus 5 3) (minus 6 7)
 
+-- the same rounded down
 abbrev pub sample_mid : Vector
 sample_mid = two_units (pos 30744573456182586026) (neg_ℤ (pos 15811494920322472814))
 
+-- the sum of its 25 coefficients
 abbrev pub sample_new : Vector
 sample_new = two_units (pos 31013312914999127191) (neg_ℤ (pos 15925343817427796593))
 
@@ -70,16 +72,19 @@ sample_coefficients k = slice_index_or
     ∷ two_units (neg_ℤ (pos 1)) (pos 0) ∷ two_units (neg_ℤ (pos 1)) (neg_ℤ (pos 1))
     ∷ two_units (neg_ℤ (pos 1)) (pos 0) ∷ []) k []
 
--- what the laws ask of a step
+-- what the laws ask of a step: the stored system stands for the exact one
 abbrev pub SampleStandsFor : Type 0
 SampleStandsFor = StandsFor stored_system exact_system
 
+-- the exact system is tame
 abbrev pub SampleIsTame : Type 0
 SampleIsTame = IsTame Sup 3249759265 exact_system
 
+-- the coefficients and their sum are a rounded step of degree 24
 abbrev pub SampleIsRounded : Type 0
 SampleIsRounded = IsRoundedStep 24 stored_system sample_mid sample_new sample_coefficients
 
+-- the rounded start is within a unit of the exact one
 abbrev pub SampleStartIsNear : Type 0
 SampleStartIsNear = IsStartNear Sup 2 (whole (pos 2)) 1 sample_start sample_mid
 
@@ -88,6 +93,7 @@ SampleStartIsNear = IsStartNear Sup 2 (whole (pos 2)) 1 sample_start sample_mid
 abbrev pub sample_early : Vector
 sample_early = two_units (pos 31013312914999127205) (neg_ℤ (pos 15925343817427796586))
 
+-- the run may stop at degree 10
 abbrev pub SampleMayStop : Type 0
 SampleMayStop = MayStop 10 stored_system sample_coefficients
 
@@ -95,9 +101,11 @@ SampleMayStop = MayStop 10 stored_system sample_coefficients
 abbrev pub SampleMayNotStopAtNine : Type 0
 SampleMayNotStopAtNine = ¬ HasWindow 9 1 sample_coefficients
 
+-- up to there it is a rounded step of degree 10
 abbrev pub SampleIsRoundedEarly : Type 0
 SampleIsRoundedEarly = IsRoundedStep 10 stored_system sample_mid sample_early sample_coefficients
 
+-- so each Taylor value of degree 10 or more from the start is within 1025 units of that sum
 abbrev pub SampleStaysNearEarly : Type 0
 SampleStaysNearEarly =
     (n : ℕ) → 10 ≤ n → distance Sup (taylor_value exact_system sample_start n) sample_early ≤ℚ units 1025

@@ -82,6 +82,7 @@ pub record StoredStopsEarly (degree d : ℕ) (s : StoredNumbers) (z : (k row : �
   pub free : (m row : ℕ) → row < s.dimension → d < m → s.free m row ≡ whole (pos 0)
   pub window : (m row : ℕ) → row < s.dimension → m ≤ d → size (z (degree - m) row) ≤ℚ window_bound m
 
+-- a run stops at degree 24, or at a degree at which it may stop early
 pub data StoredMayStop (degree : ℕ) (s : StoredNumbers) (z : (k row : ℕ) → Fraction) : Type 0 where
   at_last : degree ≡ 24 → StoredMayStop degree s z
   after_window : (d : ℕ) → StoredStopsEarly degree d s z → StoredMayStop degree s z
@@ -109,6 +110,7 @@ pub record IsStoredPairStep (kappa40 rad rad2 received degree : ℕ) (c : Fracti
   pub second_start : IsStartNear Sup half (whole (pos 1)) rad2 y2 (drop half mid)
   pub receives : c *ℚ whole (pos rad) ≤ℚ whole (pos received)
 
+-- the promise of such a step for the first half
 abbrev pub StoredFirstHalvesStayWithinTheirRadius : Type 0
 StoredFirstHalvesStayWithinTheirRadius =
     (kappa40 rad rad2 received degree n : ℕ) (c : Fraction) (s : StoredNumbers) (half : ℕ) (exact : CoupledPair)
@@ -116,6 +118,7 @@ StoredFirstHalvesStayWithinTheirRadius =
     → IsStoredPairStep kappa40 rad rad2 received degree c s half exact y y2 mid new z → degree ≤ n
     → distance Sup (taylor_value exact.first y n) (take half new) ≤ℚ units (grow rad kappa40 1023)
 
+-- and for the second half, which also takes over what it receives
 abbrev pub StoredSecondHalvesStayWithinTheirRadius : Type 0
 StoredSecondHalvesStayWithinTheirRadius =
     (kappa40 rad rad2 received degree n : ℕ) (c : Fraction) (s : StoredNumbers) (half : ℕ) (exact : CoupledPair)

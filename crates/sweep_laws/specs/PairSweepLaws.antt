@@ -72,6 +72,7 @@ pub record PairStaysNear (product : Product) (n : ℕ) (w z : ℕ → Vector) (w
       × (distance Sup (both_second product n months done) (z_in months done)
       ≤ℚ units (second_cells product plan (2 ^ scale product plan) months done))
 
+-- so each such sweep does, in each degree from 6 on
 abbrev pub PairSweepsStayNear : Type 0
 PairSweepsStayNear = (product : Product) (n : ℕ) → IsAdmissible product → 6 ≤ n
     → (w z : ℕ → Vector) (w_in z_in : ℕ → ℕ → Vector)

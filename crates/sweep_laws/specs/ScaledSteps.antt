@@ -37,6 +37,7 @@ scaled_first product plan n months done =
 abbrev pub next_cell : ℕ → ℕ
 next_cell done = 32 - suc done
 
+-- over that cell the scaled first moments make a step of a tame system
 abbrev pub FirstMomentsStep : Type 0
 FirstMomentsStep = OfBothPlans (λ product plan n. (months done : ℕ) → months < product.months → done < 32
     → let month = product.months - suc months in
@@ -44,7 +45,7 @@ FirstMomentsStep = OfBothPlans (λ product plan n. (months done : ℕ) → month
     (scaled_system (plan_scaling product plan) (thiele_system (backward_cell product plan month (next_cell done)))) n
     (scaled_first product plan n months done) (scaled_first product plan n months (suc done)))
 
--- both moments, the second ones divided by G^2
+-- a step of a tame pair from two vectors of norm at most 1
 pub record IsTamePairStep (kappa : ℕ) (coupling : Fraction) (p : CoupledPair) (n : ℕ) (w z v x : Vector) : Type 0 where
   pub tame : IsTamePair kappa coupling p
   pub first_fits : length w ≤ p.first.dimension
@@ -54,15 +55,18 @@ pub record IsTamePairStep (kappa : ℕ) (coupling : Fraction) (p : CoupledPair) 
   pub first_steps : v ≡ taylor_value p.first w n
   pub second_steps : x ≡ second_taylor_value p w z n
 
+-- the first moments of the payment plan after some cells of a month, divided by G
 abbrev pub both_first : Product → (n months done : ℕ) → Vector
 both_first product n months done = scale_list (plan_scaling product (payment_plan product))
     (moments_after_cells product (payment_plan product) n months done).first
 
+-- the second moments, divided by G^2
 abbrev pub both_second : Product → (n months done : ℕ) → Vector
 both_second product n months done =
     let h = plan_scaling product (payment_plan product) in
     scale_list (h *ℚ h) (moments_after_cells product (payment_plan product) n months done).second
 
+-- over the cell that comes next both make a step of a tame pair
 abbrev pub BothMomentsStep : Type 0
 BothMomentsStep = (product : Product) (n months done : ℕ) → IsAdmissible product → 6 ≤ n → months < product.months
     → done < 32 → let month = product.months - suc months in let plan = payment_plan product in

@@ -56,6 +56,7 @@ pub record StaysNear (product : Product) (plan : Plan) (n : ℕ) (dates : ℕ �
         → distance Sup (scaled_first product plan n months done) (cells months done)
         ≤ℚ units (radius_cells product months done)
 
+-- so each backward sweep does, of both plans
 abbrev pub SweepsStayNear : Type 0
 SweepsStayNear = OfBothPlans (λ product plan n. (dates : ℕ → Vector) (cells : ℕ → ℕ → Vector)
     → IsSweep product plan n dates cells → StaysNear product plan n dates cells)
@@ -69,6 +70,7 @@ pub record IsForwardSweep (product : Product) (n : ℕ) (dates : ℕ → Vector)
       (cells month done) (cells month (suc done))
   pub months : (month : ℕ) → month < product.months → dates (suc month) ≡ cells month 32
 
+-- it stays within the forward radius ledger of the probabilities
 pub record StaysForwardNear (product : Product) (n : ℕ) (dates : ℕ → Vector) (cells : ℕ → ℕ → Vector) : Type 0 where
   pub at_dates : (month : ℕ) → month ≤ product.months
       → distance Sum (probabilities product n month) (dates month) ≤ℚ units (radius_forward product month)
@@ -76,6 +78,7 @@ pub record StaysForwardNear (product : Product) (n : ℕ) (dates : ℕ → Vecto
       → distance Sum (probabilities_after product n month done) (cells month done)
       ≤ℚ units (grow_cells (kappa40 product month) 1024 (radius_forward product month) done)
 
+-- so each forward sweep does, in each degree from 8 on
 abbrev pub ForwardSweepsStayNear : Type 0
 ForwardSweepsStayNear = (product : Product) (n : ℕ) → IsAdmissible product → 8 ≤ n
     → (dates : ℕ → Vector) (cells : ℕ → ℕ → Vector)

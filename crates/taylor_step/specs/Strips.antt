@@ -45,6 +45,7 @@ numbers_at r k = take (length r.columns) (drop (k * length r.columns) r.numbers)
 abbrev pub start_products : StoredRow → List ℤ → ℕ → ℤ
 start_products r start k = sum_of_products (numbers_at r k) (items_at start r.columns)
 
+-- the sizes of these products, added up
 abbrev pub start_sizes : StoredRow → List ℤ → ℕ → ℕ
 start_sizes r start k = sum_of_sizes (numbers_at r k) (items_at start r.columns)
 
@@ -53,6 +54,7 @@ abbrev pub products_of : StoredSystem → List ℤ → List (List ℤ) → ℕ �
 products_of s start strips k row =
     start_products (row_of s row) start k +ℤ sum_of_products (row_of s row).numbers (window s strips k row)
 
+-- and the sizes of all these products, added up
 abbrev pub sizes_of : StoredSystem → List ℤ → List (List ℤ) → ℕ → ℕ → ℕ
 sizes_of s start strips k row =
     start_sizes (row_of s row) start k + sum_of_sizes (row_of s row).numbers (window s strips k row)

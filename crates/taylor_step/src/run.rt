@@ -6,7 +6,7 @@ ghost use Rattle.frac_laws.specs.Rounding.{floor_of};
 ghost use Rattle.fixed_num.specs.Products.{sum_of_products, sum_of_sizes};
 ghost use Rattle.linear_system.specs.StoredSystem.{row_of, dim_of};
 ghost use Rattle.taylor_step.specs.WholeRun.{ProductsFit, value_to};
-ghost use Rattle.taylor_step.specs.Strips.{contents, window, HasRoom};
+ghost use Rattle.taylor_step.specs.Strips.{contents, HasRoom};
 ghost use Rattle.taylor_step.specs.Strips.{start_products, start_sizes, products_of, sizes_of};
 ghost use Rattle.taylor_step.specs.Stops.{IsStop};
 

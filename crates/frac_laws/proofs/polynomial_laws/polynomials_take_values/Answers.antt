@@ -1,4 +1,5 @@
-use Rattle.frac_laws.proofs.Polynomials.{value_at-add_lists, value_at-scale_list, value_at-shifted, value_at-stretched, value_at-reflected}
+use Rattle.frac_laws.proofs.Polynomials.{value_at-add_lists, value_at-scale_list, value_at-shifted}
+use Rattle.frac_laws.proofs.Polynomials.{value_at-stretched, value_at-reflected}
 use Rattle.frac_laws.proofs.polynomial_laws.polynomials_take_values.Goals as goal
 
 pub returns-clause-sums : goal.returns-clause-sums

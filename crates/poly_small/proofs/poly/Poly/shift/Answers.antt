@@ -6,7 +6,8 @@ use Rattle.poly_small.proofs.poly.Poly.shift.Goals as goal
 
 pub weighted_value-requires-clause-fits : goal.weighted_value-requires-clause-fits
 weighted_value-requires-clause-fits c =
-    row_fits c.args.self.now.c (pos 1 ∷ pos 1 ∷ pos 1 ∷ pos 1 ∷ pos 1 ∷ pos 1 ∷ []) 0 6 c.args.k (omega arith) c.requires
+    row_fits c.args.self.now.c (pos 1 ∷ pos 1 ∷ pos 1 ∷ pos 1 ∷ pos 1 ∷ pos 1 ∷ []) 0 6 c.args.k (omega arith)
+    c.requires
 
 pub weighted_value-requires-2-clause-fits : goal.weighted_value-requires-2-clause-fits
 weighted_value-requires-2-clause-fits c =
