@@ -8,9 +8,8 @@ cd "$(dirname "$0")/.."
 work=$(mktemp -d)
 trap 'rm -rf "$work"' EXIT
 tool=$PWD/crates/thiele_cli/out/thiele_cli
-(cd crates/thiele_cli && rt run -- value "$PWD/../../examples/flat.toml") >/dev/null 2>&1 || true
+[ -x "$tool" ] || (cd crates/thiele_cli && rt run -- value ../../examples/flat.toml) >/dev/null 2>&1 || true
 [ -x "$tool" ] || { echo "the program is not built: $tool"; exit 1; }
-[ "$("$tool" reserves examples/flat.toml 12)" != 'refused unbuilt' ] || { echo 'the tool does not answer reserves yet'; exit 1; }
 plain=$work/reserves
 gcc -O2 -o "$plain" bench/reserves.c
 

@@ -7,7 +7,7 @@ cd "$(dirname "$0")/.." || exit 2
 exec python3 - <<'PYTHON'
 import collections, pathlib, re
 
-LIMITS = {"lines over 120 columns": 74, "unused imports": 46, "definitions without a line": 150, "statements in two crates": 73}
+LIMITS = {"lines over 120 columns": 71, "unused imports": 0, "definitions without a line": 0, "statements in two crates": 80}
 
 found = {name: [] for name in LIMITS}
 statements = collections.defaultdict(set)

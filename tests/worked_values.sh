@@ -1,0 +1,77 @@
+#!/usr/bin/env bash
+# Runs the built program over worked products, and looks whether its intervals hold the values of tests/values/*.txt: from
+# closed forms, and from power series in 60 digits, month by month, outside the program. A value there is cut after its
+# last digit. The last line counts what passed and what failed.
+set -u
+cd "$(dirname "$0")/.." || exit 2
+program=$PWD/crates/thiele_cli/out/thiele_cli
+if [ ! -x "$program" ]; then
+  echo "the program is not built: $program"
+  echo "0 passed, 1 failed"
+  exit 1
+fi
+exec python3 - "$program" <<'PYTHON'
+import pathlib, subprocess, sys
+from fractions import Fraction
+
+program, folder = sys.argv[1], pathlib.Path("tests/values")
+
+
+def faults(words, wanted):
+    """What is wrong with the report that these words get."""
+    ran = subprocess.run([program, *words], cwd=folder, capture_output=True, text=True)
+    lines = ran.stdout.split("\n")
+    refused = [line[1:] for line in wanted if line[0] == "refused"]
+    if refused:
+        right = ran.returncode == int(refused[0][0]) and ran.stdout.split() == ["refused", *refused[0][1:]]
+        return [] if right else [f"status {ran.returncode}: {ran.stdout}"]
+    if ran.returncode != 0 or ran.stderr:
+        return [f"status {ran.returncode}: {ran.stdout}{ran.stderr}"]
+    told, rows = [], {}
+    for line in lines[2:-2]:
+        if line.startswith("column ") or line.startswith("end "):
+            break
+        month, state, what, low, high, tolerance = line.split(" ")
+        rows[month, state, what] = low, high, tolerance
+        if what != "premium" and Fraction(high) - Fraction(low) > Fraction(tolerance):
+            told.append(f"wider than its tolerance: {line}")
+        if Fraction(low) > Fraction(high):
+            told.append(f"ends turned round: {line}")
+    head = lines[1].split(" ")
+    if lines[0].split(" ")[:2] != ["report", words[0]] or not 8 <= int(head[1]) <= 24:
+        told.append(f"another head: {lines[0]}, {lines[1]}")
+    if f"end {len(rows)}" not in lines:
+        told.append(f"another count of rows than {len(rows)}")
+    for line in wanted:
+        if line[0] == "rows":
+            found = int(line[1]) == len(rows)
+        elif line[0] == "scale":
+            found = head[3] == line[1]
+        elif line[0] == "degree":
+            found = int(head[1]) <= int(line[1])
+        elif line[0] == "tolerance":
+            found = line[1] in {row[2] for row in rows.values()}
+        else:
+            month, state, what, digits = line
+            unit = Fraction(1, 10 ** len(digits.partition(".")[2]))
+            low, high = (Fraction(end) for end in rows.get((month, state, what), ("1", "0"))[:2])
+            size = abs(Fraction(digits))
+            sign = -1 if digits.startswith("-") else 1
+            ends = sorted((sign * size, sign * (size + unit)))
+            found = low <= ends[1] and ends[0] <= high
+        if not found:
+            told.append("not so: " + " ".join(line))
+    return told
+
+
+passed = failed = 0
+for file in sorted(folder.glob("*.txt")):
+    for block in file.read_text(encoding="utf-8").split("\n\n"):
+        words, *wanted = [line.split() for line in block.strip().split("\n") if not line.startswith("#")]
+        told = faults(words, wanted)
+        passed, failed = passed + (not told), failed + bool(told)
+        if told:
+            print(f"FAILED {' '.join(words)}", *told[:12], sep="\n  ")
+print(f"{passed} passed, {failed} failed")
+raise SystemExit(failed > 0)
+PYTHON
