@@ -1,7 +1,0 @@
-use Rattle.std.proofs.Common.{◌≡◌}
-use Rattle.model_specs.specs.Whole.{list_of}
-use Rattle.reserve_report.specs.TableRows.{row_at}
-use Rattle.reserve_report.proofs.results.rows_of.Given as goal
-
-abbrev pub invariant-loop-place : goal.invariant-loop-place
-invariant-loop-place l = l.rows.items ≡ list_of l.place (row_at l.what l.t)
