@@ -94,7 +94,7 @@ module _ (product : Product) (plan : Plan) (month g : ℕ) (is : g ≡ scale pro
       nothing : (h x y : Fraction) → x ≡ whole (pos 0) → y ≡ whole (pos 0) → whole (pos 0) ≡ x +ℚ h *ℚ y
       nothing h x y none zero = rw (none, zero) (ring (h ∷ []) (hlevel terms) refl)
 
-  more : (i : ℕ) → number_at (in_units new) i ≡ number_at (in_units old) i +ℚ h *ℚ number_at l i
+  pub more : (i : ℕ) → number_at (in_units new) i ≡ number_at (in_units old) i +ℚ h *ℚ number_at l i
   more i = elim (cases_lt i (length product.states)) [
     | inl b ↦ added i b
     | inr past ↦ beyond i past

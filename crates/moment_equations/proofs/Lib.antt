@@ -1,0 +1,9 @@
+pub mod Squares
+pub mod Halves
+pub mod DateLedgers
+pub mod LumpedHalves
+pub mod CellSteps
+pub mod MonthSteps
+pub mod DateNumbers
+pub mod WrittenDates
+pub mod SweepSteps

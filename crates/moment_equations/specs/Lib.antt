@@ -1,0 +1,4 @@
+pub mod NearMoments
+pub mod Kinds
+pub mod Dates
+pub mod Results
