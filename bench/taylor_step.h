@@ -8,7 +8,13 @@
 typedef __int128 i128;
 typedef unsigned __int128 u128;
 
-enum { DEGREE = 24, BLOCKS = 36, MOST_ROWS = 12, MOST_POWERS = 9 };
+enum { DEGREE = 24, BLOCKS = 36 };
+
+/* the most rows, and numbers by powers of x, that a program fills */
+#ifndef MOST_ROWS
+#define MOST_ROWS 12
+#define MOST_POWERS 9
+#endif
 
 typedef struct {
     int width;
