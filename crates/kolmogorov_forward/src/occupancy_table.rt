@@ -3,10 +3,13 @@
 ghost use Rattle.std.specs.Prelude.{◌≡◌, ℕ, ◌+◌, ◌*◌, ◌/◌, ◌^◌, ◌<◌, ◌≤◌, IfOk, OnErr, length};
 ghost use Rattle.named_numbers.specs.Numbers.{cells_of_month, least_degree};
 ghost use Rattle.model_specs.specs.Payments.{payment_plan};
+ghost use Rattle.limit_laws.specs.Modulus.{ProbabilitiesConverge};
+ghost use Rattle.limit_laws.specs.Defect.{NearlySolvesKolmogorov};
 ghost use Rattle.thiele_backward.specs.Results.{AreConstantMonths};
 ghost use Rattle.kolmogorov_forward.specs.Results.{AreOccupancies, BeginsInStart};
 ghost use Rattle.kolmogorov_forward.specs.Dates.{HasDate, KeepsRowsBelow};
 
+use crate::equations::runs_obey_kolmogorov;
 use crate::sweep::Sweep;
 use fixed_interval::{Printed, Table};
 use rate_bounds::Admitted;
@@ -60,9 +63,16 @@ pub fn occupancy<L: Ledger>(
     ensures issue { IfOk result (BeginsInStart adm.now) }
     ensures constant { AreConstantMonths adm.now (payment_plan adm.now)
         → IfOk result (λ table. table.degree ≡ least_degree) }
+
+    // At each date the probabilities of two degrees from 8 on differ, all states together, by at most Wf / 2^13,
+    // divided by 8^n, Wf being the forward radius of the date, and the run of degree n solves Kolmogorov's equation in
+    // each cell but for a defect of at most 8^-n.
+    ensures modulus { ProbabilitiesConverge adm.now }
+    ensures defect { NearlySolvesKolmogorov adm.now }
     ensures count { IfOk result (λ table. steps.new ≡ steps.old + cells_of_month * adm.now.months) }
     ensures refused { OnErr result (steps.new ≡ steps.old) }
 {
+    runs_obey_kolmogorov(adm);
     let mut sweep = Sweep::prepare(alloc, adm)?;
     let states = adm.product().graph().states();
     let months = adm.product().months();

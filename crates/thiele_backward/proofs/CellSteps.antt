@@ -10,6 +10,7 @@ use Rattle.frac_laws.proofs.Order.{le_trans}
 use Rattle.cell_laws.specs.Systems.{System}
 use Rattle.cell_laws.specs.Tame.{IsTame}
 use Rattle.step_laws.specs.StepLaws.{IsStartNear}
+use Rattle.named_numbers.specs.Numbers.{cells_of_month, least_degree, step_rounding, cell_rounding}
 use Rattle.model_specs.specs.Product.{Product}
 use Rattle.model_specs.specs.Payments.{Plan}
 use Rattle.model_specs.specs.Growth.{kappa40}
@@ -52,7 +53,7 @@ near_by_spare product plan month degree done old new spare n v from start =
     (units-order (radius_in product month done - 1) (radius_in product month done) (omega arith))
 
 module _ (which : Which) (product : Product) (month done : ℕ) (admissible : IsAdmissible product)
-    (inside : month < product.months) (few : done < 32) where
+    (inside : month < product.months) (few : done < cells_of_month) where
   abbrev plan : Plan
   plan = plan_named which product
 
@@ -69,7 +70,7 @@ module _ (which : Which) (product : Product) (month done : ℕ) (admissible : Is
   is_tame : IsTame Sup (kappa40 product month) e
   is_tame = tame product plan month admissible (four_named which product admissible) inside done few
 
-  module _ (degree : ℕ) (eight : 8 ≤ degree) (start old : List ℤ)
+  module _ (degree : ℕ) (least : least_degree ≤ degree) (start old : List ℤ)
       (near : StaysNear product plan month degree done start old) where
     -- the numbers fit, since some run is near them
     pub numbers_fit : HasSome (IsNearLumped product plan month start) → AreAtMost (2 ^ 65) old
@@ -77,7 +78,7 @@ module _ (which : Which) (product : Product) (month done : ℕ) (admissible : Is
         mid_most (scale_list (plan_scaling product plan) (month_values product plan degree month some.values done)) old
         (radius_in product month done)
         (values_within product plan month admissible (four_named which product admissible) inside degree some.values
-        (omega (arith, eight)) some.has.begins done (omega (arith, few)))
+        (omega (arith, least)) some.has.begins done (omega (arith, few)))
         (near degree some.values (omega arith) some.has) radius_few
 
     pub can_step : (s : StoredSystem) → StandsFor s e → HasSome (IsNearLumped product plan month start) → CanStep s old
@@ -95,7 +96,7 @@ module _ (which : Which) (product : Product) (month done : ℕ) (admissible : Is
         record {
           fits = scaled_fit product plan month admissible four inside n v is_start.begins.fits done;
           small = le_trans
-              (values_within product plan month admissible four inside n v (omega (arith, eight, from))
+              (values_within product plan month admissible four inside n v (omega (arith, least, from))
               is_start.begins done (omega (arith, few)))
               (linear [] (natural 1 1) (hlevel claims) refl);
           near = near n v (omega (arith, from)) is_start;
@@ -103,7 +104,7 @@ module _ (which : Which) (product : Product) (month done : ℕ) (admissible : Is
         } in
         rw (steps_on product plan month admissible four inside n v done)
         (le_trans (promise y rad n begun (omega (arith, from)))
-        (units-order (grow rad kappa 1023) (grow rad kappa 1024 - 1) (omega arith)))
+        (units-order (grow rad kappa step_rounding) (grow rad kappa cell_rounding - 1) (omega arith)))
 
     pub stepped_to : (new : List ℤ) (answered top next : ℕ) → top ≡ max degree answered → next ≡ suc done
         → Encloses Sup e (kappa40 product month) old new answered
@@ -139,16 +140,17 @@ constant_named which product p month is constant = rw (is, plan-named which prod
 
 -- where nothing varies, the degree is the least one
 module _ (which : Which) (product : Product) (month done : ℕ) (admissible : IsAdmissible product)
-    (inside : month < product.months) (few : done < 32) (degree : ℕ) (eight : 8 ≤ degree) (start old : List ℤ)
+    (inside : month < product.months) (few : done < cells_of_month) (degree : ℕ) (least : least_degree ≤ degree)
+    (start old : List ℤ)
     (near : StaysNear product (plan_named which product) month degree done start old) (answered : ℕ)
     (s : StoredSystem) where
   pub constant_here : StandsFor s (e which product month done admissible inside few)
       → HasSome (IsNearLumped product (plan_named which product) month start)
       → ((e : System) (kappa : ℕ) → IsConstant s → StandsFor s e → IsTame Sup kappa e → AreAtMost (2 ^ 65) old
-      → answered ≡ 8) → IsConstant s → degree ≡ 8 → max degree answered ≡ 8
+      → answered ≡ least_degree) → IsConstant s → degree ≡ least_degree → max degree answered ≡ least_degree
   constant_here stands some promise constant is_least =
-      let is_eight : answered ≡ 8 =
+      let answers_least : answered ≡ least_degree =
       promise (e which product month done admissible inside few) (kappa40 product month) constant stands
       (is_tame which product month done admissible inside few)
-      (numbers_fit which product month done admissible inside few degree eight start old near some) in
-      omega (arith, is_eight, is_least)
+      (numbers_fit which product month done admissible inside few degree least start old near some) in
+      omega (arith, answers_least, is_least)

@@ -15,6 +15,7 @@ use Rattle.frac_laws.proofs.Norms.{norm-same}
 use Rattle.frac_laws.proofs.Order.{le_trans, le_of_equal}
 use Rattle.frac_laws.proofs.Quotients.{over_add, over_mul, over_is, inverse}
 use Rattle.frac_laws.proofs.Vectors.{number_at-add_lists, number_at-scale_list, number_at-subtract_lists}
+use Rattle.named_numbers.specs.Numbers.{cells_of_month}
 use Rattle.model_specs.specs.Product.{Product}
 use Rattle.model_specs.specs.Payments.{Plan, lump_at, lumps_at}
 use Rattle.model_specs.specs.Ledgers.{scale, radius}
@@ -164,6 +165,7 @@ some_lumped product plan month old new near some = record { values = some.values
 pub encloses_month : (product : Product) (plan : Plan) (month degree : ℕ) (old mid new : List ℤ)
     → month < product.months
     → ((v : Vector) → IsNearAt product plan (suc month) old v → IsNearLumped product plan month mid v)
-    → StaysNearWithSpare product plan month degree 32 mid new → EnclosesMonth product plan month degree old new
+    → StaysNearWithSpare product plan month degree cells_of_month mid new
+    → EnclosesMonth product plan month degree old new
 encloses_month product plan month degree old mid new inside lumped stays n v from start =
     rw (radius_back product month inside) (stays n v from (lumped v start))

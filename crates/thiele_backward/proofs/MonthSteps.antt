@@ -12,6 +12,7 @@ use Rattle.frac_laws.proofs.Sizes.{size_of_natural}
 use Rattle.cell_laws.specs.Systems.{System, taylor_value}
 use Rattle.cell_laws.specs.Tame.{IsTame}
 use Rattle.cell_laws.proofs.Dimensions.{taylor_values_keep_dimension}
+use Rattle.named_numbers.specs.Numbers.{cells_of_month, pay_unit}
 use Rattle.model_specs.specs.Product.{Product}
 use Rattle.model_specs.specs.Payments.{Plan}
 use Rattle.model_specs.specs.Growth.{kappa40}
@@ -69,7 +70,7 @@ values_fit product plan n month v fits zero =
     add_lists_fits (length product.states) v (lump_vector product plan (suc month)) fits
     (list-length (length product.states) _)
 values_fit product plan n month v fits (suc done) =
-    let cell = backward_cell product plan month (32 - suc done) in
+    let cell = backward_cell product plan month (cells_of_month - suc done) in
     taylor_values_keep_dimension (thiele_system cell) (month_values product plan n month v done) n
     (systems_keep_states cell).thiele (values_fit product plan n month v fits done)
 
@@ -89,22 +90,23 @@ module _ (product : Product) (plan : Plan) (month : ℕ) (admissible : IsAdmissi
   system cell = thiele_system (backward_cell product plan month cell)
 
   -- what the bound ledger says of a run that begins at the month's end
-  held : (n : ℕ) (v : Vector) → 6 ≤ n → BeginsWithinLedger product plan months v → (done : ℕ) → done ≤ 32
-      → IsWithinLedger (bound_cells product plan months done)
+  held : (n : ℕ) (v : Vector) → 6 ≤ n → BeginsWithinLedger product plan months v
+      → (done : ℕ) → done ≤ cells_of_month → IsWithinLedger (bound_cells product plan months done)
       (norm_of_vector Sup (month_values product plan n month v done))
   held n v above begins done few =
       let Says : ℕ → ℕ → Type 0 = λ k m. IsWithinLedger (bound_cells product plan k done)
-      (norm_of_vector Sup (cells_back (λ cell. thiele_system (backward_cell product plan m cell)) n 32
-      (add_lists v (lump_vector product plan (suc m))) done)) in
+      (norm_of_vector Sup (cells_back (λ cell. thiele_system (backward_cell product plan m cell)) n
+      cells_of_month (add_lists v (lump_vector product plan (suc m))) done)) in
       let none_more : months + 0 ≡ months = omega arith in
       let ledger = (keeps_ledger_from product plan n admissible.well_formed (admissible_obeys product admissible)
       four above months v begins).cells 0 done (omega (arith, inside)) few in
       subst (λ m. Says months m) month-is (subst (λ k. Says k (product.months - suc k)) none_more ledger)
 
-  pub values_within : (n : ℕ) (v : Vector) → 6 ≤ n → BeginsWithinLedger product plan months v → (done : ℕ) → done ≤ 32
+  pub values_within : (n : ℕ) (v : Vector) → 6 ≤ n → BeginsWithinLedger product plan months v
+      → (done : ℕ) → done ≤ cells_of_month
       → norm_of_vector Sup (scale_list h (month_values product plan n month v done)) ≤ℚ whole (pos 1)
   values_within n v above begins done few =
-      let bound : bound_cells product plan months done ≤ 1024 * 2 ^ scale product plan =
+      let bound : bound_cells product plan months done ≤ pay_unit * 2 ^ scale product plan =
       omega (
         arith,
         bound_greatest product plan months done (omega (arith, inside)) few,
@@ -116,7 +118,7 @@ module _ (product : Product) (plan : Plan) (month : ℕ) (admissible : IsAdmissi
   abbrev pub scaled : ℕ → System
   scaled done = scaled_system h (system (next_cell done))
 
-  pub tame : (done : ℕ) → done < 32 → IsTame Sup (kappa40 product month) (scaled done)
+  pub tame : (done : ℕ) → done < cells_of_month → IsTame Sup (kappa40 product month) (scaled done)
   tame done few = thiele_cell_tame product plan month (next_cell done) admissible.well_formed
       (admissible_obeys product admissible month inside) inside (omega arith) four
 

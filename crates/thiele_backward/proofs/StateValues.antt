@@ -13,6 +13,7 @@ use Rattle.frac_laws.proofs.Norms.{norm-same}
 use Rattle.frac_laws.proofs.Order.{le_trans, le_of_equal}
 use Rattle.frac_laws.proofs.Quotients.{inverse}
 use Rattle.frac_laws.proofs.Vectors.{number_at-scale_list, number_at-subtract_lists}
+use Rattle.named_numbers.specs.Numbers.{pay_unit}
 use Rattle.model_specs.specs.Product.{Product}
 use Rattle.model_specs.specs.Payments.{Plan}
 use Rattle.model_specs.specs.Cells.{Backward, cells_of_32}
@@ -82,7 +83,7 @@ zeros_near product plan n =
     record {
       begins = record {
         fits = list-length (length product.states) (λ i. whole (pos 0));
-        within = le_trans (le_of_equal (ap (λ x. whole (pos 1024) *ℚ x) none ∙ ring [] (hlevel terms) refl))
+        within = le_trans (le_of_equal (ap (λ x. whole (pos pay_unit) *ℚ x) none ∙ ring [] (hlevel terms) refl))
             (natural (bound_before_term product plan (product.months - product.months)) 1);
       };
       near = le_trans (le_of_equal (norm-same Sup (subtract_lists (scale_list h zeros) numbers) [] (λ i.

@@ -4,7 +4,7 @@ use Rattle.std.proofs.Common.{refl, ap, subst, ◌∙◌, arith}
 use Rattle.frac_laws.specs.Lists.{Vector}
 use Rattle.frac_laws.specs.Norms.{Sup, norm_of_vector}
 use Rattle.frac_laws.proofs.Order.{le_trans}
-use Rattle.named_numbers.specs.Numbers.{cells_of_month}
+use Rattle.named_numbers.specs.Numbers.{cells_of_month, cell_rounding, least_degree}
 use Rattle.model_specs.specs.Product.{Product}
 use Rattle.model_specs.specs.Payments.{Plan}
 use Rattle.model_specs.specs.Growth.{kappa40}
@@ -29,9 +29,10 @@ use Rattle.thiele_backward.proofs.MonthSteps.{values_fit, four_named}
 pub radius_some : (product : Product) (month : ℕ) → month < product.months → 1 ≤ radius product month
 radius_some product month inside =
     at_least_one (radius product (suc month)) _ (radius product month)
-    (cells_add (kappa40 product month) 1024 (radius product (suc month)) 32) (radius_back product month inside)
+    (cells_add (kappa40 product month) cell_rounding (radius product (suc month)) cells_of_month)
+    (radius_back product month inside)
   where
-    at_least_one : (w grown r : ℕ) → w + 32 * 1024 ≤ grown → r ≡ grown → 1 ≤ r
+    at_least_one : (w grown r : ℕ) → w + cells_of_month * cell_rounding ≤ grown → r ≡ grown → 1 ≤ r
     at_least_one w grown r most is = omega (arith, most, is)
 
 module _ (product : Product) (plan : Plan) (n begin : ℕ) (v : Vector) (begins : BeginsWithinLedger product plan begin v)
@@ -41,16 +42,16 @@ module _ (product : Product) (plan : Plan) (n begin : ℕ) (v : Vector) (begins 
         → first_from product plan n begin v (suc more)
         ≡ month_values product plan n month (first_from product plan n begin v more) cells_of_month
     goes_on more month is =
-        months_go (λ cell. thiele_system (backward_cell product plan (product.months - suc (begin + more)) cell)) n 32
-        (first_from_cells product plan n begin v more 0)
-        ∙ ap (λ m. month_values product plan n m (first_from product plan n begin v more) 32) is
+        months_go (λ cell. thiele_system (backward_cell product plan (product.months - suc (begin + more)) cell)) n
+        cells_of_month (first_from_cells product plan n begin v more 0)
+        ∙ ap (λ m. month_values product plan n m (first_from product plan n begin v more) cells_of_month) is
 
     run_fits : (more : ℕ) → length (first_from product plan n begin v more) ≤ length product.states
     run_fits zero = begins.fits
     run_fits (suc more) =
         rw (goes_on more (product.months - suc (begin + more)) refl)
         (values_fit product plan n (product.months - suc (begin + more)) (first_from product plan n begin v more)
-        (run_fits more) 32)
+        (run_fits more) cells_of_month)
 
     -- its values are within the bound ledger, so that a run may begin with them
     pub may_go_on : IsAdmissible product → HasFourEach plan → 6 ≤ n → (more left : ℕ) → begin + more ≡ left
@@ -78,7 +79,7 @@ near_at_first product plan date rad n numbers v is start =
 -- a month of a sweep: s is where it stands before it, and the numbers go from old to new
 module _ (s : BackwardSweep) (rad : ℕ) (old new : List ℤ) (admissible : IsAdmissible s.product)
     (begun : s.begun.months_left ≤ s.product.months) (left : s.months_left ≤ s.begun.months_left)
-    (radius_is : rad ≡ radius s.product s.months_left) (eight : 8 ≤ s.degree)
+    (radius_is : rad ≡ radius s.product s.months_left) (least : least_degree ≤ s.degree)
     (near : (n : ℕ) (v : Vector) → s.degree ≤ n → IsStart s v
     → AreWithin s.product (plan_in s) (rad - spare_units s) (values_from s n v) old)
     (month : ℕ) (month_is : s.months_left ≡ suc month) where
@@ -99,7 +100,7 @@ module _ (s : BackwardSweep) (rad : ℕ) (old new : List ℤ) (admissible : IsAd
       → IsNearAt product plan (suc month) old (values_from s n v)
   near_before n v from start = record {
     begins = may_go_on product plan n begin v start.begins admissible (four_named s.which product admissible)
-        (omega (arith, eight, from)) more (product.months - suc month) (omega (arith, begun, left, month_is))
+        (omega (arith, least, from)) more (product.months - suc month) (omega (arith, begun, left, month_is))
         (omega arith);
     near = le_trans (near n v from start)
         (units-order (rad - spare_units s) (radius product (suc month)) (omega (

@@ -30,7 +30,8 @@ pub record IsSwept (product : Product) (which : Which) (done degree : ℕ) (s : 
   pub answered : IsAnsweredDegree degree
   pub constant : AreConstantMonths product (plan_named which product) → degree ≡ least_degree
 
-pub swept_none : (product : Product) (which : Which) → IsSwept product which 0 least_degree (begun_sweep product which (at_term product))
+pub swept_none : (product : Product) (which : Which)
+    → IsSwept product which 0 least_degree (begun_sweep product which (at_term product))
 swept_none product which = record {
   product_is = refl;
   which_is = refl;
@@ -81,7 +82,8 @@ pub issue_value : (product : Product) (which : Which) (degree : ℕ) (s : Backwa
 issue_value product which degree s n start h is_start =
     let value : Product → Which → (date state : ℕ) → Fraction = λ p w date state.
     reserve p (plan_named w p) n date state +ℚ whole (lump_at (plan_named w p) date state) in
-    ap (λ p. value p s.which s.months_left start) h.product_is ∙ ap (λ w. value product w s.months_left start) h.which_is
+    ap (λ p. value p s.which s.months_left start) h.product_is
+    ∙ ap (λ w. value product w s.months_left start) h.which_is
     ∙ ap (λ date. value product which date start) (left_at_issue product which degree s h)
     ∙ ap (λ state. value product which 0 state) is_start
 

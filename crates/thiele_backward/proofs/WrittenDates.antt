@@ -1,6 +1,7 @@
 -- The rows of a table of reserves, as a sweep goes back over its dates.
 use Rattle.std.proofs.Common.{◌≡◌, ℕ, ◌+◌, ◌-◌, ◌*◌, ◌/◌, ◌%◌, ◌^◌, ◌<◌, ◌≤◌, ℤ, pos, ◌+ℤ◌, ◌≤ℤ◌, List, length}
-use Rattle.std.proofs.Common.{[], ◌∷◌, refl, ap, sym, subst, ◌∙◌, inl, inr, arith, set, below_more, get_or-set_same, get_or-set_other}
+use Rattle.std.proofs.Common.{[], ◌∷◌, refl, ap, sym, subst, ◌∙◌, inl, inr, arith, set, below_more}
+use Rattle.std.proofs.Common.{get_or-set_same, get_or-set_other}
 use Rattle.std.proofs.lemmas.Int.{ints}
 use Rattle.std.proofs.lemmas.Bool.Decides.{eqb_tells}
 use Rattle.std.proofs.lemmas.Nat.{div-mul-add, mod-mul-add}
@@ -100,7 +101,8 @@ state_written product degree date row states state old new ends is inside right 
     below_more _ _
     (λ j below. subst (λ found. IsReserveAt product degree date j found)
     (sym (ap (λ cells. ends_of cells (row * states + j)) is
-    ∙ get_or-set_other old (row * states + state) (row * states + j) ends (record { lo = pos 0; hi = pos 0 }) (λ e. omega (arith, e, below))))
+    ∙ get_or-set_other old (row * states + state) (row * states + j) ends (record { lo = pos 0; hi = pos 0 })
+    (λ e. omega (arith, e, below))))
     (so_far j below))
     (subst (λ found. IsReserveAt product degree date state found)
     (sym (ap (λ cells. ends_of cells (row * states + state)) is

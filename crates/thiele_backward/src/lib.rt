@@ -1,6 +1,7 @@
 //! Thiele's equation, swept backward month by month: numbers within the radius ledger of the exact reserves.
 #![tactic(auto)]
 
+mod equations;
 mod month;
 mod reserve_table;
 mod sweep;

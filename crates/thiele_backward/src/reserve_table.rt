@@ -3,9 +3,12 @@
 ghost use Rattle.std.specs.Prelude.{◌≡◌, ℕ, ◌+◌, ◌*◌, ◌/◌, ◌^◌, ◌<◌, ◌≤◌, IfOk, OnErr, length};
 ghost use Rattle.named_numbers.specs.Numbers.{cells_of_month, least_degree};
 ghost use Rattle.model_specs.specs.Payments.{payment_plan};
+ghost use Rattle.limit_laws.specs.Modulus.{ReservesConverge};
+ghost use Rattle.limit_laws.specs.Defect.{NearlySolvesThiele};
 ghost use Rattle.thiele_backward.specs.Results.{AreReserves, HoldAroundReserves, AreConstantMonths};
 ghost use Rattle.thiele_backward.specs.Dates.{SweepsReserves, HasDate, KeepsRowsFrom};
 
+use crate::equations::runs_obey_thiele;
 use crate::month::LEAST_DEGREE;
 use crate::sweep::Sweep;
 use fixed_interval::{Printed, Table};
@@ -63,9 +66,15 @@ pub fn reserves<L: Ledger>(
     ensures around { IfOk result (HoldAroundReserves adm.now every) }
     ensures constant { AreConstantMonths adm.now (payment_plan adm.now)
         → IfOk result (λ table. table.degree ≡ least_degree) }
+
+    // The reserves of two degrees from 8 on differ by at most G W / 2^13, divided by 8^n, W being the radius of the
+    // date, and the run of degree n solves Thiele's equation in each cell but for a defect of at most 8^-n.
+    ensures modulus { ReservesConverge adm.now (payment_plan adm.now) }
+    ensures defect { NearlySolvesThiele adm.now (payment_plan adm.now) }
     ensures count { IfOk result (λ table. steps.new ≡ steps.old + cells_of_month * adm.now.months) }
     ensures refused { OnErr result (steps.new ≡ steps.old) }
 {
+    runs_obey_thiele(adm, Which::Benefits);
     let mut sweep = Sweep::prepare(alloc, adm, Which::Benefits)?;
     let states = adm.product().graph().states();
     let months = adm.product().months();

@@ -2,9 +2,12 @@
 
 ghost use Rattle.std.specs.Prelude.{◌≡◌, ◌+◌, ◌*◌, ◌^◌, ◌<◌, IfOk, OnErr};
 ghost use Rattle.named_numbers.specs.Numbers.{cells_of_month, least_degree};
+ghost use Rattle.limit_laws.specs.Modulus.{ReservesConverge};
+ghost use Rattle.limit_laws.specs.Defect.{NearlySolvesThiele};
 ghost use Rattle.rate_bounds.specs.MonthPay.{plan_named};
 ghost use Rattle.thiele_backward.specs.Results.{IsValueAtIssue, AreConstantMonths};
 
+use crate::equations::runs_obey_thiele;
 use crate::month::LEAST_DEGREE;
 use crate::sweep::Sweep;
 use fixed_interval::Valued;
@@ -26,9 +29,15 @@ pub fn value<L: Ledger>(
     ensures value { IfOk result (IsValueAtIssue adm.now (plan_named which adm.now)) }
     ensures constant { AreConstantMonths adm.now (plan_named which adm.now)
         → IfOk result (λ valued. valued.degree ≡ least_degree) }
+
+    // The values of two degrees from 8 on differ by at most G W / 2^13, divided by 8^n, and the run of degree n solves
+    // Thiele's equation in each cell but for a defect of at most 8^-n.
+    ensures modulus { ReservesConverge adm.now (plan_named which adm.now) }
+    ensures defect { NearlySolvesThiele adm.now (plan_named which adm.now) }
     ensures count { IfOk result (λ valued. steps.new ≡ steps.old + cells_of_month * adm.now.months) }
     ensures refused { OnErr result (steps.new ≡ steps.old) }
 {
+    runs_obey_thiele(adm, which);
     let mut sweep = Sweep::prepare(alloc, adm, which)?;
     let mut degree = LEAST_DEGREE;
     for _month in 0..adm.product().months() {

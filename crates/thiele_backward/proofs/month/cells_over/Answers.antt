@@ -1,4 +1,5 @@
 use Rattle.std.proofs.Common.{◌≡◌, ◌<◌, ◌+◌, ◌∙◌, refl, arith, add-one}
+use Rattle.named_numbers.specs.Numbers.{cells_of_month, least_degree}
 use Rattle.rate_bounds.specs.MonthPay.{plan_named}
 use Rattle.cell_coeffs.proofs.RowSteps.{made_kept}
 use Rattle.cell_coeffs.proofs.Writes.{same_places_then}
@@ -8,7 +9,8 @@ use Rattle.thiele_backward.proofs.month.cells_over.Goals as goal
 
 pub loop-done-init : goal.loop-done-init
 loop-done-init g c = record {
-  near = begins_near c.args.adm.now (plan_named c.args.which c.args.adm.now) c.args.month 8 c.args.mid.now;
+  near = begins_near c.args.adm.now (plan_named c.args.which c.args.adm.now) c.args.month least_degree
+      c.args.mid.now;
   spare = λ none. absurd (omega (arith, none));
   least = omega arith;
   highest = omega arith;
@@ -23,7 +25,7 @@ loop-done-init g c = record {
 pub step-answered-requires-clause-can : goal.step-answered-requires-clause-can
 step-answered-requires-clause-can g c =
     let product = c.args.adm.now in
-    let few : c.loop-done.done < 32 = c.loop-done-test.true in
+    let few : c.loop-done.done < cells_of_month = c.loop-done-test.true in
     let stands = rw c.product.ensures.product at c.fill.ensures.stands in
     can_step c.args.which product c.args.month c.loop-done.done c.product.ensures.admissible
     c.requires.month few c.loop-done.degree c.loop-done.invariant.least c.args.mid.now c.loop-done.mid
@@ -38,7 +40,7 @@ loop-done-preserved g c =
     let which = c.args.which in
     let month = c.args.month in
     let done = c.loop-done.done in
-    let few : done < 32 = c.loop-done-test.true in
+    let few : done < cells_of_month = c.loop-done-test.true in
     let admissible = c.product.ensures.admissible in
     let before = c.loop-done.invariant in
     let system = c.fill.new.out in
@@ -70,5 +72,6 @@ loop-done-preserved g c =
 
 pub returns-clause-near : goal.returns-clause-near
 returns-clause-near g c =
-    let done : c.loop-done.done ≡ 32 = omega (arith, c.loop-done-test.false, c.loop-done.auto.done-end) in
+    let done : c.loop-done.done ≡ cells_of_month =
+    omega (arith, c.loop-done-test.false, c.loop-done.auto.done-end) in
     rw done at (c.loop-done.invariant.spare (omega (arith, done)))

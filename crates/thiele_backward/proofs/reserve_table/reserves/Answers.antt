@@ -13,20 +13,24 @@ pub loop-month-init : goal.loop-month-init
 loop-month-init g c =
     let swept = subst (λ s. IsSwept c.args.adm.now Benefits 0 least_degree s) (sym c.in_ok-sweep.ensures)
     (swept_none c.args.adm.now Benefits) in
-    let written = with_items_is c.in_ok-cells.cells c.keep_date.new.cells (c.keep_date.auto.cells ∙ c.deref_mut.ensures.len) in
+    let written = with_items_is c.in_ok-cells.cells c.keep_date.new.cells
+    (c.keep_date.auto.cells ∙ c.deref_mut.ensures.len) in
     let months : c.months-months.result ≡ c.args.adm.now.months =
     c.months-months.ensures.value ∙ ap (λ p. p.months) c.product-2.ensures.product in
     let states : c.states-states.result ≡ length c.args.adm.now.states = search rules in
-    let room : length c.keep_date.new.cells ≡ (c.args.adm.now.months / c.args.every + 1) * length c.args.adm.now.states =
+    let room : length c.keep_date.new.cells
+    ≡ (c.args.adm.now.months / c.args.every + 1) * length c.args.adm.now.states =
     c.keep_date.auto.cells ∙ c.deref_mut.ensures.len ∙ c.in_ok-cells.ensures.len
     ∙ ap (λ n. (n / c.args.every + 1) * c.states-states.result) months
     ∙ ap (λ n. (c.args.adm.now.months / c.args.every + 1) * n) states in
     record {
       swept = swept;
       count = omega arith;
-      dates = subst (λ cells. HasDatesFrom c.args.adm.now c.args.every c.in_ok-sweep.sweep.months_left least_degree cells)
+      dates = subst
+          (λ cells. HasDatesFrom c.args.adm.now c.args.every c.in_ok-sweep.sweep.months_left least_degree cells)
           (sym written) (dates_at_term c.args.adm.now c.args.every least_degree c.in_ok-sweep.sweep
-          c.keep_date.new.cells swept.product_is swept.degree_is (omega (arith, swept.left)) room c.keep_date.ensures.written);
+          c.keep_date.new.cells swept.product_is swept.degree_is (omega (arith, swept.left)) room
+          c.keep_date.ensures.written);
     }
 
 pub keep_date-requires-in-loop-month-clause-room : goal.keep_date-requires-in-loop-month-clause-room
@@ -61,8 +65,8 @@ loop-month-preserved g c =
     (c.keep_date-in-loop-month.auto.cells ∙ read.len) in
     let earlier : c.loop-month.sweep.months_left ≡ c.month_back-row.new.self.months_left + 1 =
     omega (arith, left, ap (λ (z : BackwardSweep). z.months_left) c.month_back-row.ensures.earlier) in
-    let dates = subst (λ n. HasDatesFrom c.args.adm.now c.args.every n c.loop-month.degree c.loop-month.cells.items) earlier
-    h.dates in
+    let dates = subst (λ n. HasDatesFrom c.args.adm.now c.args.every n c.loop-month.degree c.loop-month.cells.items)
+    earlier h.dates in
     let kept = subst (λ n. KeepsRowsFrom (c.month_back-row.new.self.months_left / c.args.every + 1) n
     c.loop-month.cells.items c.keep_date-in-loop-month.new.cells) states
     (subst (λ old. KeepsRowsFrom (c.month_back-row.new.self.months_left / c.args.every + 1) c.states-states.result old
@@ -70,11 +74,13 @@ loop-month-preserved g c =
     record {
       swept = swept;
       count = omega (arith, c.month_back-row.ensures.count, h.count);
-      dates = subst (λ cells. HasDatesFrom c.args.adm.now c.args.every c.month_back-row.new.self.months_left c.max-degree.result cells)
-          (sym written)
+      dates = subst
+          (λ cells. HasDatesFrom c.args.adm.now c.args.every c.month_back-row.new.self.months_left
+          c.max-degree.result cells) (sym written)
           (dates_more p c.args.every c.loop-month.degree c.max-degree.result s c.loop-month.cells.items new
           c.requires.every (omega (arith, c.max-degree.ensures)) swept.product_is swept.degree_is
-          (c.keep_date-in-loop-month.auto.cells ∙ ap length read.value) dates kept c.keep_date-in-loop-month.ensures.written);
+          (c.keep_date-in-loop-month.auto.cells ∙ ap length read.value) dates kept
+          c.keep_date-in-loop-month.ensures.written);
     }
 
 pub returns-clause-reserves : goal.returns-clause-reserves

@@ -31,8 +31,8 @@ loop-state-preserved c =
     let ends = c.printed.ensures in
     let plan = payment_plan c.args.sweep.now.product in
     let spare = min 1 (s.product.months - s.months_left) * 2 ^ scale s.product plan in
-    let right : IsReserveAt c.args.sweep.now.product c.args.sweep.now.degree c.args.sweep.now.months_left c.loop-state.state
-    c.printed.result = record {
+    let right : IsReserveAt c.args.sweep.now.product c.args.sweep.now.degree c.args.sweep.now.months_left
+    c.loop-state.state c.printed.result = record {
       holds = ends_for s.degree spare (radius s.product s.months_left) (scale s.product plan)
           (λ n. reserve s.product plan n s.months_left state) c.enclosure.result c.printed.result held width
           ends.ordered ends.small ends.encloses ends.narrow;
