@@ -94,7 +94,8 @@ module _ (product : Product) (months done : ℕ) (admissible : IsAdmissible prod
   -- after the step each run is near the new numbers
   stepped : (n answered : ℕ) (old new : List ℤ) → 8 ≤ n → answered ≤ n
       → EnclosesFirst e (length product.states) (kappa40 product month) old new answered
-      → EnclosesSecond e (length product.states) (kappa40 product month) (coupling_of product plan month) old new answered
+      → EnclosesSecond e (length product.states) (kappa40 product month) (coupling_of product plan month) old new
+      answered
       → AreNearIn product n months done old → AreNearIn product n months (suc done) new
   stepped n answered old new eight from promise_first promise_second near =
       let step = both_moments_step product n months done admissible (omega (arith, eight)) inside few in
@@ -107,7 +108,12 @@ module _ (product : Product) (months done : ℕ) (admissible : IsAdmissible prod
       let starts : ArePairStarts (length product.states) old w z radius second =
       record {
         first = record { fits = step.first_fits; small = step.first_starts; near = near.first; radius = radius_few };
-        second = record { fits = step.second_fits; small = step.second_starts; near = near.second; radius = second_few };
+        second = record {
+          fits = step.second_fits;
+          small = step.second_starts;
+          near = near.second;
+          radius = second_few;
+        };
       } in
       record {
         first = rw step.first_steps (le_trans (promise_first w z radius second n starts from)

@@ -1,4 +1,5 @@
--- What the lumps of a date add to the second radius, and what a cell takes of the first one: as the law of sweeps has it
+-- What the lumps of a date add to the second radius, and what a cell takes of the first one: as the law of sweeps has
+-- it.
 -- date by date and cell by cell.
 use Rattle.std.specs.Prelude.{◌≡◌, ℕ, pos, ◌+◌, ◌*◌, ◌^◌, ◌<◌, ◌≤◌, unsigned_abs, ℤ, List, [], ◌∷◌, length, map}
 use Rattle.std.specs.Int.{div_ceil}

@@ -2,7 +2,8 @@
 use Rattle.std.specs.Prelude.{◌≡◌, ℕ, zero, suc, pos, ◌+◌, ◌-◌, ◌^◌, ◌<◌, ◌≤◌, ℤ, List, [], ◌∷◌, length, replicate}
 use Rattle.std.specs.Prelude.{slice_index_or, take, drop, ◌+ℤ◌, ◌≤ℤ◌, unsigned_abs}
 use Rattle.std.proofs.lemmas.Bool.{cases_lt}
-use Rattle.std.proofs.lemmas.List.{get_or-take, get_or-drop, get_or_past, get_or-replicate, length-take, length-replicate}
+use Rattle.std.proofs.lemmas.List.{get_or-take, get_or-drop, get_or_past, get_or-replicate}
+use Rattle.std.proofs.lemmas.List.{length-take, length-replicate}
 use Rattle.std.proofs.Common.{refl, ap, sym, subst, ◌∙◌, arith, inl, inr, pow_pos}
 use mathlib.Core.Path.{ap₂}
 use Rattle.frac_laws.specs.Fraction.{Fraction, over, whole, size, ◌-ℚ◌, ◌*ℚ◌, ◌≤ℚ◌}
@@ -144,7 +145,8 @@ module _ (product : Product) (n date : ℕ) (within : date ≤ product.months) w
   number-is First state = back (whole (pos (2 ^ g))) h (reserve product plan n date state) unit
     where
       back : (G h x : Fraction) → h *ℚ G ≡ whole (pos 1) → G *ℚ (h *ℚ x) ≡ x
-      back G h x is = ring (G ∷ h ∷ x ∷ []) (hlevel terms) refl ∙ ap (λ y. y *ℚ x) is ∙ ring (x ∷ []) (hlevel terms) refl
+      back G h x is =
+          ring (G ∷ h ∷ x ∷ []) (hlevel terms) refl ∙ ap (λ y. y *ℚ x) is ∙ ring (x ∷ []) (hlevel terms) refl
   number-is Second state = ap (λ q. q *ℚ scaled_second state) four
       ∙ back (whole (pos (2 ^ g))) h (second_moment product n date state) unit
     where
@@ -289,9 +291,11 @@ pub near_at_term : (product : Product) (n : ℕ) (mid : List ℤ)
 near_at_term product n mid is = rw is (record {
   first = zero_near (scale_list (plan_scaling product (payment_plan product))
       (moments_before_term product (payment_plan product) n 0).first) _
-      (radius_before_term product 0) (λ i. scaled-none (plan_scaling product (payment_plan product)) _ i (exact_none product n i))
+      (radius_before_term product 0)
+      (λ i. scaled-none (plan_scaling product (payment_plan product)) _ i (exact_none product n i))
       (zeros-at (length product.states));
-  second = zero_near (scale_list (plan_scaling product (payment_plan product) *ℚ plan_scaling product (payment_plan product))
+  second = zero_near
+      (scale_list (plan_scaling product (payment_plan product) *ℚ plan_scaling product (payment_plan product))
       (moments_before_term product (payment_plan product) n 0).second) _
       (second_before_term product (payment_plan product) (2 ^ scale product (payment_plan product)) 0)
       (λ i. scaled-none (plan_scaling product (payment_plan product) *ℚ plan_scaling product (payment_plan product)) _ i

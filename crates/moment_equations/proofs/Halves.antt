@@ -29,7 +29,8 @@ number_within x z rad small near =
     (le_trans (le_of_equal (ap size (ring (x ∷ over z (2 ^ 64) ∷ []) (hlevel terms) refl)))
     (le_trans (size_add x (opposite (x -ℚ over z (2 ^ 64))))
     (rw (size-opposite (x -ℚ over z (2 ^ 64)), over_add (pos (2 ^ 64)) (pos rad) (2 ^ 64))
-    (linear (size x ∷ size (x -ℚ over z (2 ^ 64)) ∷ over (pos rad) (2 ^ 64) ∷ []) (near ⊞ small) (hlevel claims) refl))))
+    (linear (size x ∷ size (x -ℚ over z (2 ^ 64)) ∷ over (pos rad) (2 ^ 64) ∷ []) (near ⊞ small) (hlevel claims)
+    refl))))
 
 module _ (mid : List ℤ) (S : ℕ) (long : length mid ≡ S + S) where
   pub first-at : (i : ℕ) → i < S → number_at (take S (in_units mid)) i ≡ over (slice_index_or mid i (pos 0)) (2 ^ 64)
@@ -74,5 +75,6 @@ module _ (mid : List ℤ) (S : ℕ) (long : length mid ≡ S + S) where
         ]
 
 -- numbers of a vector of norm at most 1
-pub numbers_small : (y : Vector) → norm_of_vector Sup y ≤ℚ whole (pos 1) → (i : ℕ) → size (number_at y i) ≤ℚ whole (pos 1)
+pub numbers_small : (y : Vector) → norm_of_vector Sup y ≤ℚ whole (pos 1)
+    → (i : ℕ) → size (number_at y i) ≤ℚ whole (pos 1)
 numbers_small y small i = le_trans (number_below_norm Sup y i) small

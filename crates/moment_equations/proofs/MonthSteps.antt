@@ -28,8 +28,8 @@ module _ (product : Product) (n months : ℕ) (mid : List ℤ) where
 
   pub month_done : AreNearIn product n months 32 mid → AreNear product n (suc months) mid
   month_done near = record {
-    first = le_trans (le_of_equal (ap (λ (v : Moments). distance Sup (scale_list h v.first) (first_half product mid)) goes))
-        near.first;
+    first = le_trans (le_of_equal (ap (λ (v : Moments). distance Sup (scale_list h v.first)
+        (first_half product mid)) goes)) near.first;
     second = le_trans (le_of_equal (ap (λ (v : Moments). distance Sup (scale_list (h *ℚ h) v.second)
         (second_half product mid)) goes)) near.second;
   }

@@ -1,5 +1,6 @@
 -- Intervals of first moments, of their squares and of variances, in units of 2^-64.
-use Rattle.std.specs.Prelude.{◌≡◌, ℕ, pos, negsuc, ◌+◌, ◌-◌, ◌*◌, ◌^◌, ◌≤◌, ℤ, ◌+ℤ◌, ◌-ℤ◌, ◌*ℤ◌, ◌≤ℤ◌, ◌<ℤ◌, neg_ℤ, unsigned_abs}
+use Rattle.std.specs.Prelude.{◌≡◌, ℕ, pos, negsuc, ◌+◌, ◌-◌, ◌*◌, ◌^◌, ◌≤◌}
+use Rattle.std.specs.Prelude.{ℤ, ◌+ℤ◌, ◌-ℤ◌, ◌*ℤ◌, ◌≤ℤ◌, ◌<ℤ◌, neg_ℤ, unsigned_abs}
 use Rattle.std.specs.Prelude.{cond, true, false, Bool, int_lt, [], ◌∷◌}
 use Rattle.std.specs.Int.{w128, int_min, int_max}
 use Rattle.std.proofs.Common.{refl, ap, ◌∙◌, arith, FitsSigned}
@@ -25,7 +26,8 @@ minus_one = negsuc (2 ^ 64 - 1)
 
 -- ---- the met interval
 
-pub met_ordered : (z : ℤ) (r : ℕ) → unsigned_abs z ≤ 2 ^ 64 + r → int_max (z -ℤ pos r) minus_one ≤ℤ int_min (z +ℤ pos r) one
+pub met_ordered : (z : ℤ) (r : ℕ) → unsigned_abs z ≤ 2 ^ 64 + r
+    → int_max (z -ℤ pos r) minus_one ≤ℤ int_min (z +ℤ pos r) one
 met_ordered z r small = omega (arith, ints, clamps)
 
 pub met_low : (z : ℤ) (r : ℕ) → unsigned_abs z ≤ 2 ^ 64 + r → unsigned_abs (int_max (z -ℤ pos r) minus_one) ≤ 2 ^ 64
@@ -111,14 +113,16 @@ module _ (a b : ℤ) (r : ℕ) (low : unsigned_abs a ≤ 2 ^ 64) (high : unsigne
   pub square_low : unsigned_abs (floor_of least one) ≤ 2 ^ 66
   square_low = sized least (floor_of least one) products_small.0 (floor_low least one some) (floor_high least one some)
     where
-      sized : (l f : ℤ) → unsigned_abs l ≤ 2 ^ 128 → (f *ℤ one) ≤ℤ l → l <ℤ ((f *ℤ one) +ℤ one) → unsigned_abs f ≤ 2 ^ 66
+      sized : (l f : ℤ) → unsigned_abs l ≤ 2 ^ 128 → (f *ℤ one) ≤ℤ l → l <ℤ ((f *ℤ one) +ℤ one)
+          → unsigned_abs f ≤ 2 ^ 66
       sized l f small below above = omega (arith, ints)
 
   pub square_high : unsigned_abs (ceiling_of greatest one) ≤ 2 ^ 66
   square_high = sized greatest (ceiling_of greatest one) products_small.1 (ceiling_low greatest one some)
       (ceiling_high greatest one some)
     where
-      sized : (l f : ℤ) → unsigned_abs l ≤ 2 ^ 128 → ((f *ℤ one) -ℤ one) <ℤ l → l ≤ℤ (f *ℤ one) → unsigned_abs f ≤ 2 ^ 66
+      sized : (l f : ℤ) → unsigned_abs l ≤ 2 ^ 128 → ((f *ℤ one) -ℤ one) <ℤ l → l ≤ℤ (f *ℤ one)
+          → unsigned_abs f ≤ 2 ^ 66
       sized l f small below above = omega (arith, ints)
 
 -- ---- what lies in them
@@ -143,7 +147,8 @@ near_low : (z : ℤ) (r : ℕ) (x : Fraction) → size (x -ℚ over z (2 ^ 64)) 
 near_low z r x near =
     let split : over (z -ℤ pos r) (2 ^ 64) ≡ over z (2 ^ 64) +ℚ opposite (over (pos r) (2 ^ 64)) =
     over_add z (neg_ℤ (pos r)) (2 ^ 64) ∙ ap (λ y. over z (2 ^ 64) +ℚ y) (over-opposite (pos r) (2 ^ 64)) in
-    rw split (linear (x ∷ over z (2 ^ 64) ∷ over (pos r) (2 ^ 64) ∷ []) (opposite_le_of_size_le near) (hlevel claims) refl)
+    rw split
+    (linear (x ∷ over z (2 ^ 64) ∷ over (pos r) (2 ^ 64) ∷ []) (opposite_le_of_size_le near) (hlevel claims) refl)
 
 near_high : (z : ℤ) (r : ℕ) (x : Fraction) → size (x -ℚ over z (2 ^ 64)) ≤ℚ over (pos r) (2 ^ 64)
     → x ≤ℚ over (z +ℤ pos r) (2 ^ 64)

@@ -1,4 +1,5 @@
--- The three kinds of numbers of a table of moments: what they are, how they are printed, and how wide their ends may be.
+-- The three kinds of numbers of a table of moments: what they are, how they are printed, and how wide their ends may
+-- be.
 use Rattle.std.specs.Prelude.{ℕ, pos, ◌^◌}
 use Rattle.frac_laws.specs.Fraction.{Fraction, whole, ◌-ℚ◌, ◌*ℚ◌}
 use Rattle.frac_laws.specs.Ledger.{tolerance_first, tolerance_second, tolerance_variance}

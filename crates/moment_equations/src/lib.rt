@@ -2,8 +2,12 @@
 #![tactic(auto)]
 
 mod ends;
+mod equations;
 mod month;
 mod tables;
 mod valuation;
 
 pub use valuation::moments;
+
+#[cfg(test)]
+mod tests;

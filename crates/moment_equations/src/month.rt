@@ -17,8 +17,8 @@ use taylor_step::{Steps, Work, step};
 // The least degree that a step answers.
 pub(crate) const LEAST_DEGREE: u8 = 8;
 
-// Adds the lumps of a month's end: to the second moments by the first ones before the lumps, and then to these. Takes no
-// memory.
+// Adds the lumps of a month's end: to the second moments by the first ones before the lumps, and then to these. Takes
+// no memory.
 fn add_lumps(adm: &Admitted, month: u32, mid: &mut [i128])
     requires month { month < adm.now.months }
     requires mid { length mid.old ≡ length adm.now.states + length adm.now.states }

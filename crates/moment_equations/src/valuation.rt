@@ -3,10 +3,14 @@
 ghost use Rattle.std.specs.Prelude.{◌≡◌, ℕ, ◌+◌, ◌*◌, ◌/◌, ◌^◌, ◌<◌, ◌≤◌, pos, IfOk, OnErr, length, replicate};
 ghost use Rattle.named_numbers.specs.Numbers.{cells_of_month, least_degree, highest_degree};
 ghost use Rattle.cell_coeffs.specs.PairRows.{IsMadeForMoments};
+ghost use Rattle.limit_laws.specs.Modulus.{ReservesConverge, SecondMomentsConverge};
+ghost use Rattle.limit_laws.specs.Defect.{NearlySolvesThiele, NearlySolvesNorberg};
+ghost use Rattle.model_specs.specs.Payments.{payment_plan};
 ghost use Rattle.moment_equations.specs.Dates.{HaveDatesFrom};
 ghost use Rattle.moment_equations.specs.Results.{AreMoments};
 
 use crate::ends::Moment;
+use crate::equations::runs_obey_norberg;
 use crate::month::{LEAST_DEGREE, month_over};
 use crate::tables::keep_date;
 use cell_coeffs::moments_system_for;
@@ -28,8 +32,8 @@ fn zeros(alloc: Global, count: usize) -> Result<Vec<i128>, AllocError>
     Ok(v)
 }
 
-// Goes back from the term to issue, writes each date that the tables have, and answers the greatest degree of the steps.
-// Takes no memory.
+// Goes back from the term to issue, writes each date that the tables have, and answers the greatest degree of the
+// steps. Takes no memory.
 fn sweep<L: Ledger>(
     adm: &Admitted,
     every: u32,
@@ -70,9 +74,10 @@ fn sweep<L: Ledger>(
     degree
 }
 
-/// The first moments, second moments and variances of the payments after the dates 0, `every`, 2 `every` and so on, up to
-/// the term, in all states and each without the lump of its date: first moments in millionths of a minor unit, the others
-/// in whole squared minor units, all rounded outward. It takes 32 steps a month, and memory before the first step.
+/// The first moments, second moments and variances of the payments after the dates 0, `every`, 2 `every` and so on, up
+/// to the term, in all states and each without the lump of its date: first moments in millionths of a minor unit, the
+/// others in whole squared minor units, all rounded outward. It takes 32 steps a month, and memory before the first
+/// step.
 pub fn moments<L: Ledger>(
     alloc: Global,
     adm: &Admitted,
@@ -82,9 +87,18 @@ pub fn moments<L: Ledger>(
     requires every { 0 < every }
     requires count { steps.old + cells_of_month * adm.now.months < 2 ^ 63 }
     ensures moments { IfOk result (AreMoments adm.now every) }
+
+    // The moments of two degrees from 8 on differ, the first ones by at most G W / 2^13, divided by 8^n, the second ones
+    // by at most 4^g Ws / 2^13, divided by 8^n, W and Ws being the radii of the date. The run of degree n solves
+    // Thiele's and Norberg's equations in each cell but for a defect of at most 8^-n.
+    ensures first_modulus { ReservesConverge adm.now (payment_plan adm.now) }
+    ensures modulus { SecondMomentsConverge adm.now }
+    ensures first_defect { NearlySolvesThiele adm.now (payment_plan adm.now) }
+    ensures defect { NearlySolvesNorberg adm.now }
     ensures count { IfOk result (λ table. steps.new ≡ steps.old + cells_of_month * adm.now.months) }
     ensures refused { OnErr result (steps.new ≡ steps.old) }
 {
+    runs_obey_norberg(adm);
     let product = adm.product();
     let states = product.graph().states();
     let count = (product.months() / every + 1) as usize * states;

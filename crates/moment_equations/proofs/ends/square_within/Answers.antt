@@ -57,10 +57,12 @@ returns-clause-small c =
     let hi = simp to_z-of_z at c.mul.ensures.hi in
     record {
       lo = rw (lo, low, high) (square_low _ _ c.args.radius
-          (met_low c.args.number c.args.radius c.requires.number) (met_high c.args.number c.args.radius c.requires.number)
+          (met_low c.args.number c.args.radius c.requires.number)
+          (met_high c.args.number c.args.radius c.requires.number)
           (met_ordered c.args.number c.args.radius c.requires.number) (met_narrow c.args.number c.args.radius));
       hi = rw (hi, low, high) (square_high _ _ c.args.radius
-          (met_low c.args.number c.args.radius c.requires.number) (met_high c.args.number c.args.radius c.requires.number)
+          (met_low c.args.number c.args.radius c.requires.number)
+          (met_high c.args.number c.args.radius c.requires.number)
           (met_ordered c.args.number c.args.radius c.requires.number) (met_narrow c.args.number c.args.radius));
     }
 

@@ -7,15 +7,15 @@ use Rattle.moment_equations.proofs.tables.ends_in.Goals as goal
 
 pub ends_of-requires-clause-first : goal.ends_of-requires-clause-first
 ends_of-requires-clause-first c =
-    let most = first_most c.args.kind c.args.adm.now c.args.date c.args.state c.args.mid.now c.product.ensures.admissible
-    c.requires.date c.requires.state c.requires.mid c.requires.near in
+    let most = first_most c.args.kind c.args.adm.now c.args.date c.args.state c.args.mid.now
+    c.product.ensures.admissible c.requires.date c.requires.state c.requires.mid c.requires.near in
     let fits : FitsSigned w128 (slice_index_or c.args.mid.now c.args.state (pos 0)) = search rules in
     simp to_z-of_z (rw c.radius.ensures.value most)
 
 pub ends_of-requires-clause-second : goal.ends_of-requires-clause-second
 ends_of-requires-clause-second c =
-    let most = second_most c.args.kind c.args.adm.now c.args.date c.args.state c.args.mid.now c.product.ensures.admissible
-    c.requires.date c.requires.state c.requires.mid c.requires.near in
+    let most = second_most c.args.kind c.args.adm.now c.args.date c.args.state c.args.mid.now
+    c.product.ensures.admissible c.requires.date c.requires.state c.requires.mid c.requires.near in
     let states : c.states-states.result ≡ length c.args.adm.now.states = search rules in
     let fits : FitsSigned w128 (slice_index_or c.args.mid.now (c.states-states.result + c.args.state) (pos 0)) =
     search rules in

@@ -159,16 +159,19 @@ loop-done-preserved g c =
       dates = record {
         firsts = dates_next product c.loop-done.done date inside at First c.args.every c.loop-done.degree
             c.month_over-answered.result c.max-degree.result c.loop-done.first c.keep_date-in-loop-done.new.cells
-            c.month_over-answered.new.mid c.requires.every c.max-degree.ensures before.least c.keep_date-in-loop-done.auto.cells
-            before.dates.firsts c.keep_date-in-loop-done.ensures.kept c.keep_date-in-loop-done.ensures.written near;
+            c.month_over-answered.new.mid c.requires.every c.max-degree.ensures before.least
+            c.keep_date-in-loop-done.auto.cells before.dates.firsts c.keep_date-in-loop-done.ensures.kept
+            c.keep_date-in-loop-done.ensures.written near;
         seconds = dates_next product c.loop-done.done date inside at Second c.args.every c.loop-done.degree
             c.month_over-answered.result c.max-degree.result c.loop-done.second c.keep_date-in-loop-done-2.new.cells
-            c.month_over-answered.new.mid c.requires.every c.max-degree.ensures before.least c.keep_date-in-loop-done-2.auto.cells
-            before.dates.seconds c.keep_date-in-loop-done-2.ensures.kept c.keep_date-in-loop-done-2.ensures.written near;
+            c.month_over-answered.new.mid c.requires.every c.max-degree.ensures before.least
+            c.keep_date-in-loop-done-2.auto.cells before.dates.seconds c.keep_date-in-loop-done-2.ensures.kept
+            c.keep_date-in-loop-done-2.ensures.written near;
         variances = dates_next product c.loop-done.done date inside at Variance c.args.every c.loop-done.degree
             c.month_over-answered.result c.max-degree.result c.loop-done.variance c.keep_date-in-loop-done-3.new.cells
-            c.month_over-answered.new.mid c.requires.every c.max-degree.ensures before.least c.keep_date-in-loop-done-3.auto.cells
-            before.dates.variances c.keep_date-in-loop-done-3.ensures.kept c.keep_date-in-loop-done-3.ensures.written near;
+            c.month_over-answered.new.mid c.requires.every c.max-degree.ensures before.least
+            c.keep_date-in-loop-done-3.auto.cells before.dates.variances c.keep_date-in-loop-done-3.ensures.kept
+            c.keep_date-in-loop-done-3.ensures.written near;
       };
       least = omega (arith, before.least, c.max-degree.ensures);
       highest = omega (arith, before.highest, c.month_over-answered.ensures.highest, c.max-degree.ensures);
