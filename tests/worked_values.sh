@@ -17,6 +17,25 @@ from fractions import Fraction
 program, folder = sys.argv[1], pathlib.Path("tests/values")
 
 
+def rows_of(lines):
+    """The rows of a report, by month, state and what they are about."""
+    rows = {}
+    for line in lines[2:]:
+        if line.startswith("end "):
+            break
+        month, state, what, *ends = line.split(" ")
+        rows[month, state, what] = ends
+    return rows
+
+
+def other_reserves(words, rows):
+    """The first moments that are not the same bytes as the reserves of the same dates."""
+    ran = subprocess.run([program, "reserves", *words[1:]], cwd=folder, capture_output=True, text=True)
+    reserves = {(month, state, "first"): ends for (month, state, what), ends in rows_of(ran.stdout.split("\n")).items()}
+    first = {row: ends for row, ends in rows.items() if row[2] == "first"}
+    return [] if first == reserves else ["other first moments than the reserves"]
+
+
 def faults(words, wanted):
     """What is wrong with the report that these words get."""
     ran = subprocess.run([program, *words], cwd=folder, capture_output=True, text=True)
@@ -27,12 +46,9 @@ def faults(words, wanted):
         return [] if right else [f"status {ran.returncode}: {ran.stdout}"]
     if ran.returncode != 0 or ran.stderr:
         return [f"status {ran.returncode}: {ran.stdout}{ran.stderr}"]
-    told, rows = [], {}
-    for line in lines[2:-2]:
-        if line.startswith("column ") or line.startswith("end "):
-            break
-        month, state, what, low, high, tolerance = line.split(" ")
-        rows[month, state, what] = low, high, tolerance
+    told, rows = [], rows_of(lines)
+    for (month, state, what), (low, high, tolerance) in rows.items():
+        line = f"{month} {state} {what} {low} {high} {tolerance}"
         if what != "premium" and Fraction(high) - Fraction(low) > Fraction(tolerance):
             told.append(f"wider than its tolerance: {line}")
         if Fraction(low) > Fraction(high):
@@ -42,6 +58,8 @@ def faults(words, wanted):
         told.append(f"another head: {lines[0]}, {lines[1]}")
     if f"end {len(rows)}" not in lines:
         told.append(f"another count of rows than {len(rows)}")
+    if words[0] == "moments":
+        told += other_reserves(words, rows)
     for line in wanted:
         if line[0] == "rows":
             found = int(line[1]) == len(rows)

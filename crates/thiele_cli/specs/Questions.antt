@@ -15,7 +15,7 @@ asked_of (Check file) = Some (question.Limits, file)
 asked_of (Value file) = Some (question.ValueAtIssue, file)
 asked_of (Reserves file every) = Some (question.Reserves every, file)
 asked_of (Occupancy file every) = Some (question.Occupancy every, file)
-asked_of (Moments file every) = None
+asked_of (Moments file every) = Some (question.Moments every, file)
 asked_of (Premium file) = Some (question.Premium, file)
 asked_of (Generate seed) = None
 
@@ -25,6 +25,7 @@ HasDates question.Limits = ⊤
 HasDates question.ValueAtIssue = ⊤
 HasDates (question.Reserves every) = 0 < every
 HasDates (question.Occupancy every) = 0 < every
+HasDates (question.Moments every) = 0 < every
 HasDates question.Premium = ⊤
 
 -- some words are read as the request

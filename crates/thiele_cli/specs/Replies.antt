@@ -78,6 +78,7 @@ AnswersQuestion question.ValueAtIssue product given = Reports product (IsReport 
 AnswersQuestion (question.Reserves every) product given = Reports product (IsReport product kind.Reserves every) given
 AnswersQuestion (question.Occupancy every) product given =
     Reports product (IsReport product kind.Occupancy every) given
+AnswersQuestion (question.Moments every) product given = Reports product (IsReport product kind.Moments every) given
 AnswersQuestion question.Premium product given =
     Reports product (IsPremiumReport product) given ⊎ IsRefusedPremium product given
 

@@ -76,7 +76,10 @@ pub fn command_answer<H: Shelf>(
         Command::Occupancy(name, every) => {
             named_answer(alloc, Question::Occupancy(every), name, shelf)
         }
+        Command::Moments(name, every) => {
+            named_answer(alloc, Question::Moments(every), name, shelf)
+        }
         Command::Premium(name) => named_answer(alloc, Question::Premium, name, shelf),
-        Command::Moments(..) | Command::Generate(_) => Ok(Answer::Refused(Refusal::Unbuilt)),
+        Command::Generate(_) => Ok(Answer::Refused(Refusal::Unbuilt)),
     }
 }

@@ -4,7 +4,9 @@ ghost use Rattle.thiele_cli.specs.Questions.{HasDates};
 ghost use Rattle.thiele_cli.specs.Replies.{AnswersQuestion, IsPrintable};
 
 use crate::answer::Answer;
-use crate::valuation::{occupancy_answer, premium_answer, reserves_answer, value_answer};
+use crate::valuation::{
+    moments_answer, occupancy_answer, premium_answer, reserves_answer, value_answer,
+};
 use rate_bounds::Admitted;
 use std::alloc::{AllocError, Global};
 use std::marker::Brand;
@@ -22,6 +24,8 @@ pub enum Question {
     Reserves(u32),
     /// The probabilities of its states at these dates, by `occupancy`.
     Occupancy(u32),
+    /// First moments, second moments and variances at these dates, by `moments`.
+    Moments(u32),
     /// Its equivalence premium, by `premium`.
     Premium,
 }
@@ -46,6 +50,7 @@ fn counted_answer<L: Ledger>(
         Question::ValueAtIssue => value_answer(alloc, admitted, &mut steps),
         Question::Reserves(every) => reserves_answer(alloc, admitted, every, &mut steps),
         Question::Occupancy(every) => occupancy_answer(alloc, admitted, every, &mut steps),
+        Question::Moments(every) => moments_answer(alloc, admitted, every, &mut steps),
         Question::Premium => premium_answer(alloc, admitted, &mut steps),
     }
 }

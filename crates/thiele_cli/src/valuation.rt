@@ -6,10 +6,11 @@ ghost use Rattle.thiele_cli.specs.Replies.{AnswersQuestion, IsPrintable};
 use crate::answer::Answer;
 use crate::refusal::Refusal;
 use kolmogorov_forward::occupancy;
+use moment_equations::moments;
 use payment_plan::Which;
 use premium_solver::{PremiumError, solve};
 use rate_bounds::Admitted;
-use reserve_report::{Kind, from_premium, from_table, from_value};
+use reserve_report::{Kind, from_moments, from_premium, from_table, from_value};
 use std::alloc::{AllocError, Global};
 use std::sync::ledger::Ledger;
 use taylor_step::Steps;
@@ -64,6 +65,24 @@ pub fn occupancy_answer<L: Ledger>(
     let _months = admitted.product().months();
     let table = occupancy(alloc, &admitted, every, steps)?;
     let report = from_table(alloc, &admitted, Kind::Occupancy, &table)?;
+    Ok(Answer::Report(admitted, report))
+}
+
+/// The first moments, second moments and variances of what is paid after these dates, in all states.
+pub fn moments_answer<L: Ledger>(
+    alloc: Global,
+    admitted: Admitted,
+    every: u32,
+    steps: &mut Steps<L>,
+) -> Result<Answer, AllocError>
+    requires every { 0 < every }
+    requires count { steps.old ≡ 0 }
+    ensures answer { IfOk result (AnswersQuestion (question.Moments every) admitted) }
+    ensures printable { IfOk result IsPrintable }
+{
+    let _months = admitted.product().months();
+    let table = moments(alloc, &admitted, every, steps)?;
+    let report = from_moments(alloc, &admitted, &table)?;
     Ok(Answer::Report(admitted, report))
 }
 

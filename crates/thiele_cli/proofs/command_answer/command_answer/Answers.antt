@@ -1,6 +1,6 @@
 use Rattle.std.proofs.Common.{ap}
 use Rattle.command_words.specs.Commands.{request_of}
-use Rattle.thiele_cli.specs.declared.question.Question.TheVariants.{Occupancy, Reserves}
+use Rattle.thiele_cli.specs.declared.question.Question.TheVariants.{Reserves, Occupancy, Moments}
 use Rattle.thiele_cli.specs.Questions.{asked_of}
 use Rattle.thiele_cli.proofs.command_answer.command_answer.Goals as goal
 
@@ -16,4 +16,11 @@ returns-in-Occupancy-clause-not_fetched g c failed = (
   c.in-Occupancy.name.now,
   (Occupancy c.in-Occupancy.every, ap (λ command. asked_of (request_of command)) c.in-Occupancy.is),
   c.named_answer-in-Occupancy.ensures.not_fetched failed,
+)
+
+pub returns-in-Moments-clause-not_fetched : goal.returns-in-Moments-clause-not_fetched
+returns-in-Moments-clause-not_fetched g c failed = (
+  c.in-Moments.name.now,
+  (Moments c.in-Moments.every, ap (λ command. asked_of (request_of command)) c.in-Moments.is),
+  c.named_answer-in-Moments.ensures.not_fetched failed,
 )
