@@ -45,7 +45,6 @@ try_start() {
   fi
 }
 
-unbuilt=$'refused unbuilt\n'
 no_reading=$'refused words\n'
 
 cat >"$work/lump.toml" <<'TOML'
@@ -86,7 +85,7 @@ try 'no words' 2 "$no_reading"
 try 'a word too few' 2 "$no_reading" value
 try 'an unknown command' 2 "$no_reading" price "$top/examples/flat.toml"
 try 'an empty name' 2 "$no_reading" value ''
-try 'a command that is not built' 10 "$unbuilt" generate 7
+try 'a seed that is too large' 2 "$no_reading" generate 18446744073709551616
 try 'a word that is no text' 2 '' value $'\xff'
 
 # how each file of `files` is judged: `ok`, the product's name and how much it has of what; or the line that refuses it
@@ -111,6 +110,11 @@ for wanted in "$top"/tests/files/examples/*.txt; do
   try "the example $name" 0 "$(cat "$wanted")"$'\n' check "$top/examples/$name.toml"
 done
 
+# a product file that the program writes is one that it reads
+"$program" generate 7 >"$work/generated-7.toml" 2>"$work/errors"
+try_start 'a generated file' $'check generated-7\nstates 3 months 780 transitions 4 lumps 780\n' \
+  check "$work/generated-7.toml"
+
 # with the least memory with which the program starts, there is none for its words; below that the system refuses it
 status=127
 for limit in $(seq 2000 20 8000); do
@@ -126,14 +130,16 @@ else
 fi
 
 # a full device takes nothing
-"$program" value "$top/examples/flat.toml" >/dev/full 2>"$work/errors"
-status=$?
-if [ "$status" -eq 8 ] && [ ! -s "$work/errors" ]; then
-  passed=$((passed + 1))
-else
-  failed=$((failed + 1))
-  echo "FAILED a full device: wanted status 8, found $status"
-fi
+for words in "value $top/examples/flat.toml" 'generate 0'; do
+  "$program" "${words%% *}" "${words#* }" >/dev/full 2>"$work/errors"
+  status=$?
+  if [ "$status" -eq 8 ] && [ ! -s "$work/errors" ]; then
+    passed=$((passed + 1))
+  else
+    failed=$((failed + 1))
+    echo "FAILED a full device, $words: wanted status 8, found $status"
+  fi
+done
 
 echo "$passed passed, $failed failed"
 [ "$failed" -eq 0 ]

@@ -11,7 +11,7 @@ if [ ! -x "$program" ]; then
   exit 1
 fi
 exec python3 - "$program" <<'PYTHON'
-import pathlib, subprocess, sys
+import pathlib, subprocess, sys, tomllib
 from fractions import Fraction
 
 program, folder = sys.argv[1], pathlib.Path("tests/values")
@@ -90,6 +90,13 @@ for file in sorted(folder.glob("*.txt")):
         passed, failed = passed + (not told), failed + bool(told)
         if told:
             print(f"FAILED {' '.join(words)}", *told[:12], sep="\n  ")
+# the product file of a seed has the tree of the one from outside, however it is spelled
+ran = subprocess.run([program, "generate", "7"], capture_output=True, text=True)
+outside = (folder / "generated-7.toml").read_text(encoding="utf-8")
+same = ran.returncode == 0 and tomllib.loads(ran.stdout) == tomllib.loads(outside)
+passed, failed = passed + same, failed + (not same)
+if not same:
+    print("FAILED generate 7: another tree than that of generated-7.toml")
 print(f"{passed} passed, {failed} failed")
 raise SystemExit(failed > 0)
 PYTHON

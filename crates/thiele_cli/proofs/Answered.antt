@@ -14,9 +14,9 @@ use Rattle.thiele_cli.specs.declared.question.Question.{Question}
 use Rattle.thiele_cli.specs.declared.refusal.Refusal.TheVariants as refusal
 use Rattle.thiele_cli.specs.declared.verdict.Verdict.{Verdict}
 use Rattle.thiele_cli.specs.declared.verdict.Verdict.TheVariants as verdict
-use Rattle.thiele_cli.specs.Questions.{asked_of}
-use Rattle.thiele_cli.specs.Cases.{Files, AreTold, NoReading, NoToml, Broken, Answered}
-use Rattle.thiele_cli.specs.Replies.{AnswersQuestion}
+use Rattle.thiele_cli.specs.Questions.{OfFile, OfSeed, asked_of}
+use Rattle.thiele_cli.specs.Cases.{Files, AreTold, NoReading, Generated, NoToml, Broken, Answered}
+use Rattle.thiele_cli.specs.Replies.{AnswersQuestion, IsGenerated}
 use Rattle.thiele_cli.specs.Ends.{IsAnswer}
 use Rattle.thiele_cli.specs.FileAnswers.{AnswersFile, AnswersAsked}
 use Rattle.thiele_cli.specs.Verdicts.{IsVerdictOn}
@@ -56,12 +56,17 @@ told (Some files) name bytes from = from
 -- the answer of the bytes that a shelf gave is that of what is asked
 pub file_answers : (files : Files) (question : Question) (name : List ℕ) (bytes : Vec ℕ Global) (given : Answer)
     → AnswersFrom files name most_file_bytes (Ok bytes) → length bytes.items ≤ most_file_bytes
-    → AnswersFile question bytes.items given → AnswersAsked files (Some (question, name)) given
+    → AnswersFile question bytes.items given → AnswersAsked files (OfFile question name) given
 file_answers files question name bytes given from short s = record {
   case = s.case;
   holds = inr (bytes.items, told files name bytes from, short, s.holds);
   says = s.says;
 }
+
+-- the product file of a seed is that of what is asked
+pub seed_answers : (files : Files) (seed : ℕ) (given : Answer) → IsGenerated seed given
+    → AnswersAsked files (OfSeed seed) given
+seed_answers files seed given says = record { case = Generated seed; holds = refl; says = says }
 
 -- the answer of a request is that of the words that are read as it
 pub request_answers : (files : Files) (words : List (List ℕ)) (request : Request) (given : Answer)

@@ -4,4 +4,5 @@ pub mod Growth
 pub mod OneCase
 pub mod Premiums
 pub mod Reported
+pub mod Seeds
 pub mod Verdicts

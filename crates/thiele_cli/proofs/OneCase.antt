@@ -5,7 +5,7 @@ use Rattle.named_numbers.specs.Numbers.{most_file_bytes}
 use Rattle.io_ports.specs.Files.{file_of}
 use Rattle.command_words.proofs.Readings.{readings_are_one}
 use Rattle.thiele_cli.specs.declared.question.Question.{Question}
-use Rattle.thiele_cli.specs.Questions.{Asked, asked_of}
+use Rattle.thiele_cli.specs.Questions.{Asked, OfFile, OfSeed, asked_of}
 use Rattle.thiele_cli.specs.Cases.{Files, IsLong, Case, Broken, Answered}
 use Rattle.thiele_cli.specs.Cases.{IsFileCase, IsNamedCase, IsAskedCase, IsCase}
 use Rattle.thiele_cli.proofs.Verdicts.{one-product, one-break, valid-or-broken, toml-or-broken, toml-or-valid}
@@ -42,8 +42,8 @@ one_named_case files question name a b (inr x) (inr y) =
 
 one_asked_case : (files : List (List ℕ × List ℕ)) (asked : Asked) (a b : Case) → IsAskedCase (Some files) asked a
     → IsAskedCase (Some files) asked b → a ≡ b
-one_asked_case files None a b x y = x ∙ sym y
-one_asked_case files (Some asked) a b x y = one_named_case files asked.0 asked.1 a b x y
+one_asked_case files (OfFile question name) a b x y = one_named_case files question name a b x y
+one_asked_case files (OfSeed seed) a b x y = x ∙ sym y
 
 -- words over told files are of one case
 pub one_case : (files : Files) (words : List (List ℕ)) (a b : Case) → IsSome files → IsCase files words a

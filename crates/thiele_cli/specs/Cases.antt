@@ -7,7 +7,7 @@ use Rattle.model_specs.specs.ValuationRules.{RuleBreak}
 use Rattle.product_file.specs.Verdict.{IsNotToml, IsValid, Breaks}
 use Rattle.command_words.specs.Readings.{Request, AreReadAs, HaveReading}
 use Rattle.thiele_cli.specs.declared.question.Question.{Question}
-use Rattle.thiele_cli.specs.Questions.{Asked, asked_of}
+use Rattle.thiele_cli.specs.Questions.{Asked, OfFile, OfSeed, asked_of}
 
 -- what a shelf tells of its files: the names with their bytes, or nothing
 abbrev pub Files : Type 0
@@ -23,11 +23,11 @@ abbrev pub IsLong : Files → List ℕ → Type 0
 IsLong None name = ⊤
 IsLong (Some files) name = IsLonger (Some files) name most_file_bytes
 
--- what words and files come to: no reading, a request that is not built, a file that is too long, that is no TOML or
--- that breaks a rule, or a question about a product that breaks none
+-- what words and files come to: no reading, a seed, a file that is too long, that is no TOML or that breaks a rule, or
+-- a question about a product that breaks none
 pub data Case : Type 0 where
   NoReading : Case
-  Unbuilt : Case
+  Generated : ℕ → Case
   TooLong : Case
   NoToml : Case
   Broken : RuleBreak → Case
@@ -47,10 +47,10 @@ IsNamedCase files question name case =
     (IsLong files name × (case ≡ TooLong))
     ⊎ ((bytes : List ℕ) × AreTold files name bytes × (length bytes ≤ most_file_bytes) × IsFileCase question bytes case)
 
--- what a request comes to by what it asks of which file; one that asks nothing is not built
+-- what a request comes to by what it asks
 abbrev pub IsAskedCase : Files → Asked → Case → Type 0
-IsAskedCase files None case = case ≡ Unbuilt
-IsAskedCase files (Some asked) case = IsNamedCase files asked.0 asked.1 case
+IsAskedCase files (OfFile question name) case = IsNamedCase files question name case
+IsAskedCase files (OfSeed seed) case = case ≡ Generated seed
 
 -- what the words come to: they have no reading, or they are read as this request
 abbrev pub IsCase : Files → List (List ℕ) → Case → Type 0

@@ -17,7 +17,6 @@ status_of (end.Rule found) = 6
 status_of (end.NoPremium low) = 7
 status_of end.WriteFault = 8
 status_of end.Memory = 9
-status_of end.NotBuilt = 10
 
 -- the ends of a run that has no answer or could not write it
 abbrev pub IsFault : End → Type 0

@@ -1,23 +1,24 @@
--- What the commands ask, and of which file.
-use Rattle.std.specs.Prelude.{◌≡◌, ℕ, ◌<◌, List, Option, Some, None, ⊤}
+-- What the commands ask, and of which file or seed.
+use Rattle.std.specs.Prelude.{◌≡◌, ℕ, ◌<◌, List, ⊤}
 use Rattle.command_words.specs.Readings.{Request, Check, Value, Reserves, Occupancy, Moments, Premium, Generate}
 use Rattle.command_words.specs.Readings.{AreReadAs}
 use Rattle.thiele_cli.specs.declared.question.Question.{Question}
 use Rattle.thiele_cli.specs.declared.question.Question.TheVariants as question
 
--- what is asked of the file with this name, or nothing
-abbrev pub Asked : Type 0
-Asked = Option (Question × List ℕ)
+-- what is asked: something of the file with this name, or the product file of a seed
+pub data Asked : Type 0 where
+  OfFile : Question → List ℕ → Asked
+  OfSeed : ℕ → Asked
 
--- what a request asks; nothing while it is not built
+-- what a request asks
 abbrev pub asked_of : Request → Asked
-asked_of (Check file) = Some (question.Limits, file)
-asked_of (Value file) = Some (question.ValueAtIssue, file)
-asked_of (Reserves file every) = Some (question.Reserves every, file)
-asked_of (Occupancy file every) = Some (question.Occupancy every, file)
-asked_of (Moments file every) = Some (question.Moments every, file)
-asked_of (Premium file) = Some (question.Premium, file)
-asked_of (Generate seed) = None
+asked_of (Check file) = OfFile question.Limits file
+asked_of (Value file) = OfFile question.ValueAtIssue file
+asked_of (Reserves file every) = OfFile (question.Reserves every) file
+asked_of (Occupancy file every) = OfFile (question.Occupancy every) file
+asked_of (Moments file every) = OfFile (question.Moments every) file
+asked_of (Premium file) = OfFile question.Premium file
+asked_of (Generate seed) = OfSeed seed
 
 -- dates that are asked for lie some months apart
 abbrev pub HasDates : Question → Type 0
@@ -32,13 +33,9 @@ HasDates question.Premium = ⊤
 abbrev pub IsRead : Request → Type 0
 IsRead request = (words : List (List ℕ)) × AreReadAs words request
 
--- the request is not built yet
-abbrev pub IsUnbuilt : Request → Type 0
-IsUnbuilt request = asked_of request ≡ None
-
 -- something is asked of this file
 abbrev pub IsAskedOf : Asked → List ℕ → Type 0
-IsAskedOf asked file = (what : Question) × (asked ≡ Some (what, file))
+IsAskedOf asked file = (what : Question) × (asked ≡ OfFile what file)
 
 -- the words ask something of this file
 abbrev pub AskAbout : List (List ℕ) → List ℕ → Type 0

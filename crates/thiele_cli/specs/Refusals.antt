@@ -11,7 +11,6 @@ use Rattle.thiele_cli.specs.declared.refusal.Refusal.TheVariants as refusal
 -- the end of a run that is refused
 abbrev pub refused_end : Refusal → End
 refused_end refusal.Words = end.BadWords
-refused_end refusal.Unbuilt = end.NotBuilt
 refused_end (refusal.Length seen) = end.TooLong seen
 refused_end refusal.Toml = end.NotToml
 refused_end (refusal.Rule found) = end.Rule found
@@ -33,7 +32,6 @@ premium_line low =
 -- the line of a refusal
 abbrev pub line_of : Refusal → List ℕ
 line_of refusal.Words = codes "refused words\n"
-line_of refusal.Unbuilt = codes "refused unbuilt\n"
 line_of (refusal.Length seen) = length_line seen
 line_of refusal.Toml = codes "refused toml\n"
 line_of (refusal.Rule found) = rule_line found

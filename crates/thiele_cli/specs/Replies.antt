@@ -1,13 +1,17 @@
 -- What each case is answered by, and how an answer ends, reports and reads.
-use Rattle.std.specs.Prelude.{◌≡◌, ◌⊎◌, ℕ, ◌+◌, ◌^◌, ◌≤◌, ℤ, unsigned_abs, List, Option, Some, None, ⊤}
+use Rattle.std.specs.Prelude.{◌≡◌, ◌⊎◌, ℕ, ◌+◌, ◌^◌, ◌≤◌, ℤ, unsigned_abs, List, Option, Some, None, ⊤, Vec}
+use Rattle.std.specs.declared.alloc.Global.{Global}
 use Rattle.named_numbers.specs.Numbers.{most_file_bytes, highest_degree}
 use Rattle.model_specs.specs.Product.{Product}
+use Rattle.product_file.specs.Verdict.{ReadsAs, IsValid}
 use Rattle.reserve_report.specs.declared.report.Report.{Report}
 use Rattle.reserve_report.specs.declared.report.Kind.TheVariants as kind
 use Rattle.reserve_report.specs.Reports.{HasText, IsReport}
 use Rattle.premium_solver.specs.Premiums.{IsTooSmall, IsLargePattern}
 use Rattle.reserve_report.specs.ReportText.{report_text}
 use Rattle.reserve_report.specs.CheckText.{check_text}
+use Rattle.workload_gen.specs.Laws.{generated_product}
+use Rattle.workload_gen.specs.Tree.{generated}
 use Rattle.thiele_cli.specs.declared.end.End.{End}
 use Rattle.thiele_cli.specs.declared.end.End.TheVariants as end
 use Rattle.thiele_cli.specs.declared.question.Question.{Question}
@@ -18,30 +22,32 @@ use Rattle.thiele_cli.specs.declared.answer.Answer.{Answer}
 use Rattle.thiele_cli.specs.declared.answer.Answer.TheVariants as answer
 use Rattle.thiele_cli.specs.Refusals.{refused_end, line_of}
 use Rattle.thiele_cli.specs.Premiums.{HasClosePremium}
-use Rattle.thiele_cli.specs.Cases.{Case, NoReading, Unbuilt, TooLong, NoToml, Broken, Answered}
+use Rattle.thiele_cli.specs.Cases.{Case, NoReading, Generated, TooLong, NoToml, Broken, Answered}
 
 -- the end of a run with this answer, once its text is written
 abbrev pub end_of : Answer → End
 end_of (answer.Limits product) = end.Done
 end_of (answer.Report product report) = end.Done
+end_of (answer.Generated text) = end.Done
 end_of (answer.Refused why) = refused_end why
 
 -- the report of an answer that is one
 abbrev pub report_of : Answer → Option Report
 report_of (answer.Limits product) = None
 report_of (answer.Report product report) = Some report
+report_of (answer.Generated text) = None
 report_of (answer.Refused why) = None
 
 -- the text of an answer
 abbrev pub text_of : Answer → List ℕ
 text_of (answer.Limits product) = check_text product
 text_of (answer.Report product report) = report_text product report
+text_of (answer.Generated text) = text.items
 text_of (answer.Refused why) = line_of why
 
 -- a refusal has a line: the number that it tells is not too large for it
 abbrev pub HasLine : Refusal → Type 0
 HasLine refusal.Words = ⊤
-HasLine refusal.Unbuilt = ⊤
 HasLine (refusal.Length seen) = ⊤
 HasLine refusal.Toml = ⊤
 HasLine (refusal.Rule found) = ⊤
@@ -51,6 +57,7 @@ HasLine (refusal.Premium low) = unsigned_abs low ≤ 2 ^ 100
 abbrev pub IsPrintable : Answer → Type 0
 IsPrintable (answer.Limits product) = ⊤
 IsPrintable (answer.Report product report) = HasText product report
+IsPrintable (answer.Generated text) = ⊤
 IsPrintable (answer.Refused why) = HasLine why
 
 -- the answer is a report about the product, and it is right in this sense
@@ -82,10 +89,17 @@ AnswersQuestion (question.Moments every) product given = Reports product (IsRepo
 AnswersQuestion question.Premium product given =
     Reports product (IsPremiumReport product) given ⊎ IsRefusedPremium product given
 
+-- the answer is a text that reads as the tree of the seed, and breaks no rule
+pub record IsGenerated (seed : ℕ) (given : Answer) : Type 0 where
+  pub text : Vec ℕ Global
+  pub answers : given ≡ answer.Generated text
+  pub reads : ReadsAs text.items (generated seed)
+  pub valid : IsValid text.items (generated_product seed)
+
 -- the answer to each case
 abbrev pub Answers : Case → Answer → Type 0
 Answers NoReading given = given ≡ answer.Refused refusal.Words
-Answers Unbuilt given = given ≡ answer.Refused refusal.Unbuilt
+Answers (Generated seed) given = IsGenerated seed given
 Answers TooLong given = given ≡ answer.Refused (refusal.Length (most_file_bytes + 1))
 Answers NoToml given = given ≡ answer.Refused refusal.Toml
 Answers (Broken found) given =

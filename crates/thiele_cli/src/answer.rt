@@ -15,6 +15,8 @@ pub enum Answer {
     Limits(Admitted),
     /// A report about a product.
     Report(Admitted, Report),
+    /// A product file that was generated.
+    Generated(Vec<u8>),
     /// No answer, but a line that says why.
     Refused(Refusal),
 }
@@ -27,6 +29,7 @@ impl Answer {
         match self {
             Answer::Limits(_) => End::Done,
             Answer::Report(..) => End::Done,
+            Answer::Generated(_) => End::Done,
             Answer::Refused(why) => why.end(),
         }
     }
@@ -39,6 +42,7 @@ impl Answer {
         match self {
             Answer::Limits(admitted) => check_bytes(alloc, admitted),
             Answer::Report(admitted, report) => report_bytes(alloc, admitted.product(), report),
+            Answer::Generated(text) => text.clone(),
             Answer::Refused(why) => why.line(alloc),
         }
     }
@@ -50,6 +54,7 @@ impl Answer {
         match self {
             Answer::Limits(_) => None,
             Answer::Report(_, report) => Some(report),
+            Answer::Generated(_) => None,
             Answer::Refused(_) => None,
         }
     }

@@ -1,8 +1,8 @@
 // What a command is answered by, before the sink is reached.
-ghost use Rattle.std.specs.Prelude.{◌≡◌, ℕ, ◌++◌, List, [], ◌∷◌, Some, IfOk, OnOk, IsErrOf};
+ghost use Rattle.std.specs.Prelude.{◌≡◌, ℕ, ◌++◌, List, [], ◌∷◌, IfOk, OnOk, IsErrOf};
 ghost use Rattle.command_words.specs.Commands.{request_of};
-ghost use Rattle.thiele_cli.specs.Questions.{asked_of, HasDates, IsAskedOf, IsRead};
-ghost use Rattle.thiele_cli.specs.Replies.{IsPrintable};
+ghost use Rattle.thiele_cli.specs.Questions.{OfFile, asked_of, HasDates, IsAskedOf, IsRead};
+ghost use Rattle.thiele_cli.specs.Replies.{IsGenerated, IsPrintable};
 ghost use Rattle.thiele_cli.specs.FileAnswers.{AnswersFile, AnswersAsked};
 
 use crate::answer::Answer;
@@ -14,6 +14,7 @@ use command_words::Command;
 use io_ports::{FetchError, Shelf};
 use named_numbers::MOST_FILE_BYTES;
 use std::alloc::{AllocError, Global};
+use workload_gen::make;
 
 /// The answer to a question about the bytes of a file.
 fn file_answer(alloc: Global, question: Question, bytes: &[u8]) -> Result<Answer, AllocError>
@@ -36,7 +37,7 @@ fn named_answer<H: Shelf>(
     shelf: &mut H,
 ) -> Result<Answer, Fault>
     requires { HasDates question }
-    ensures answer { IfOk result (AnswersAsked (H.files shelf.old) (Some (question, name.now))) }
+    ensures answer { IfOk result (AnswersAsked (H.files shelf.old) (OfFile question name.now)) }
     ensures printable { IfOk result IsPrintable }
     ensures fetched { OnOk result (H.failed shelf.new ≡ H.failed shelf.old) }
     ensures not_fetched { IsErrOf result Fault.Fetch → H.failed shelf.new ≡ H.failed shelf.old ++ name.now ∷ [] }
@@ -51,7 +52,15 @@ fn named_answer<H: Shelf>(
     }
 }
 
-/// The answer to a command. One that is not built is refused before the fetch.
+/// The product file of a seed.
+fn seed_answer(alloc: Global, seed: u64) -> Result<Answer, AllocError>
+    ensures answer { IfOk result (IsGenerated seed) }
+    ensures printable { IfOk result IsPrintable }
+{
+    Ok(Answer::Generated(make(alloc, seed)?))
+}
+
+/// The answer to a command. A seed needs no file.
 pub fn command_answer<H: Shelf>(
     alloc: Global,
     command: Command<'_>,
@@ -80,6 +89,6 @@ pub fn command_answer<H: Shelf>(
             named_answer(alloc, Question::Moments(every), name, shelf)
         }
         Command::Premium(name) => named_answer(alloc, Question::Premium, name, shelf),
-        Command::Generate(_) => Ok(Answer::Refused(Refusal::Unbuilt)),
+        Command::Generate(seed) => Ok(seed_answer(alloc, seed)?),
     }
 }

@@ -12,8 +12,6 @@ pub enum End {
     Done,
     /// The words have no reading.
     BadWords,
-    /// The words or the file are of a form that this program does not value yet.
-    NotBuilt,
     /// The file could not be fetched.
     FetchFault,
     /// The file has more than 1,048,576 bytes, of which this many were taken.
@@ -45,7 +43,6 @@ impl End {
             End::NoPremium { .. } => 7,
             End::WriteFault => 8,
             End::Memory => 9,
-            End::NotBuilt => 10,
         }
     }
 }

@@ -14,8 +14,6 @@ use std::alloc::{AllocError, Global};
 pub enum Refusal {
     /// The words have no reading.
     Words,
-    /// The words or the file are of a form that this program does not value yet.
-    Unbuilt,
     /// The file has more than 1,048,576 bytes, of which this many were taken.
     Length { seen: u64 },
     /// The file is no TOML text.
@@ -66,7 +64,6 @@ impl Refusal {
     {
         match self {
             Refusal::Words => End::BadWords,
-            Refusal::Unbuilt => End::NotBuilt,
             Refusal::Length { seen } => End::TooLong { seen },
             Refusal::Toml => End::NotToml,
             Refusal::Rule(found) => End::Rule(found),
@@ -81,7 +78,6 @@ impl Refusal {
     {
         match self {
             Refusal::Words => b"refused words\n".to_vec(alloc),
-            Refusal::Unbuilt => b"refused unbuilt\n".to_vec(alloc),
             Refusal::Length { seen } => length_text(alloc, seen),
             Refusal::Toml => b"refused toml\n".to_vec(alloc),
             Refusal::Rule(found) => rule_text(alloc, found),

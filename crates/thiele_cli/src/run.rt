@@ -1,8 +1,8 @@
 // The whole program but its real shelf and sink.
-ghost use Rattle.std.specs.Prelude.{◌≡◌, ◌≢◌, ◌⊎◌, IsSome};
+ghost use Rattle.std.specs.Prelude.{◌≡◌, ◌≢◌, ◌⊎◌, ℕ, IsSome};
 ghost use Rattle.io_ports.specs.Counts.{Rose};
-ghost use Rattle.command_words.specs.Readings.{words_of, Request, AreReadAs, HaveReading};
-ghost use Rattle.thiele_cli.specs.Questions.{IsUnbuilt, AskAbout};
+ghost use Rattle.command_words.specs.Readings.{words_of, Generate, AreReadAs, HaveReading};
+ghost use Rattle.thiele_cli.specs.Questions.{AskAbout};
 ghost use Rattle.thiele_cli.specs.Replies.{report_of, text_of};
 ghost use Rattle.thiele_cli.specs.Ends.{ComesBy, IsFault, LeadTo, LeadToReport, NotesFailure, status_of};
 ghost use Rattle.thiele_cli.specs.Outcome.{Delivers, Writes};
@@ -32,8 +32,8 @@ fn deliver<K: Sink>(sink: &mut K, answer: Answer, text: &[u8]) -> Finish
     }
 }
 
-/// The top call: reads the words, fetches and reads the file that they name, and writes what they ask for, or the line
-/// that refuses it. All memory is taken before the first byte is written.
+/// The top call: reads the words, fetches and reads the file that they name, if any, and writes what they ask for, or
+/// the line that refuses it. All memory is taken before the first byte is written.
 pub fn run<H: Shelf, K: Sink>(
     alloc: Global,
     words: &[String],
@@ -50,11 +50,11 @@ pub fn run<H: Shelf, K: Sink>(
     ensures causes { (own : End) → ¬ IsFault own →
         ComesBy (H.files shelf.old) (words_of words.now) (H.failed shelf.old) (H.failed shelf.new) result.end own }
 
-    // Words without a reading, and commands that are not built, need no file; the first take no memory either.
+    // Words without a reading and seeds need no file, told or not; the first take no memory either.
     ensures no_reading { ¬ HaveReading (words_of words.now) →
         (result.end ≡ End.BadWords) ⊎ (result.end ≡ End.WriteFault) }
-    ensures unbuilt { (request : Request) → AreReadAs (words_of words.now) request → IsUnbuilt request →
-        (result.end ≡ End.NotBuilt) ⊎ (result.end ≡ End.Memory) ⊎ (result.end ≡ End.WriteFault) }
+    ensures generated { (seed : ℕ) → AreReadAs (words_of words.now) (Generate seed) →
+        (result.end ≡ End.Done) ⊎ (result.end ≡ End.Memory) ⊎ (result.end ≡ End.WriteFault) }
 
     // A fetch fault comes exactly where the list of failed names grew, and it grew by the word FILE.
     ensures failed { NotesFailure (AskAbout (words_of words.now)) result.end (H.failed shelf.old) (H.failed shelf.new) }

@@ -1,5 +1,6 @@
 mod ends;
 mod reports;
+mod seeds;
 
 use io_ports::{MemoryShelf, MemorySink};
 use std::alloc::{AllocError, Global};

@@ -100,7 +100,7 @@ fn words_that_name_nothing_to_do_are_refused_before_the_fetch(rt: HostRuntime) -
         (["value", ""].as_slice(), 2, "refused words\n"),
         (&["Value", "flat"], 2, "refused words\n"),
         (&["reserves", "flat", "0"], 2, "refused words\n"),
-        (&["generate", "7"], 10, "refused unbuilt\n"),
+        (&["generate", "-1"], 2, "refused words\n"),
     ] {
         let mut sink = sink(alloc, &[])?;
         let finish = run(alloc, &words(alloc, texts)?, &mut shelf, &mut sink);

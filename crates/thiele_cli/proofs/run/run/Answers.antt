@@ -1,11 +1,13 @@
 use Rattle.std.proofs.Common.{inl, inr, ap, Err}
 use Rattle.std.proofs.KnownBytes.{Keeps-refl}
 use Rattle.command_words.specs.Commands.{request_of}
+use Rattle.command_words.specs.Readings.{Generate}
 use Rattle.io_ports.specs.Counts.{Rose}
 use Rattle.thiele_cli.specs.declared.answer.Answer.TheVariants as answer
 use Rattle.thiele_cli.specs.declared.refusal.Refusal.TheVariants as refusal
 use Rattle.thiele_cli.proofs.Answered.{request_answers, no_reading_answers}
 use Rattle.thiele_cli.proofs.Causes.{comes_by, reported, completes}
+use Rattle.thiele_cli.proofs.Seeds.{seed_ends, no_file_of_seed}
 use Rattle.thiele_cli.proofs.run.run.Goals as goal
 
 pub returns-in_default-clause-causes : goal.returns-in_default-clause-causes
@@ -59,3 +61,18 @@ returns-in-Ok-text-clause-complete g c own cause told same calm =
 pub returns-in-Err-clause-written : goal.returns-in-Err-clause-written
 returns-in-Err-clause-written g c =
     inl (inr c.of-in-Err.ensures.end, c.of-in-Err.ensures.report, Keeps-refl (g.K.Sink.written c.args.sink.now))
+
+pub returns-in_default-clause-generated : goal.returns-in_default-clause-generated
+returns-in_default-clause-generated g c seed read = absurd (c.in_default.ensures.none (Generate seed, read))
+
+pub returns-in-Err-Fetch-clause-generated : goal.returns-in-Err-Fetch-clause-generated
+returns-in-Err-Fetch-clause-generated g c seed read =
+    let file = c.in-Err-Fetch.ensures.not_fetched (ap (λ e. Err e) c.in-Err-Fetch.field-0-is) in
+    absurd (no_file_of_seed _ (request_of c.in-Some.command) seed file.0 c.in-Some.ensures.some file.1 read)
+
+pub returns-in-Ok-text-clause-generated : goal.returns-in-Ok-text-clause-generated
+returns-in-Ok-text-clause-generated g c seed read =
+    seed_ends _ _ seed c.in-Ok.answer c.deliver-in-Ok-text.result.end (g.K.Sink.written c.args.sink.now)
+    (g.K.Sink.written c.deliver-in-Ok-text.new.sink) read
+    (request_answers _ _ (request_of c.in-Some.command) c.in-Ok.answer c.in-Some.ensures.some c.in-Ok.ensures.answer)
+    c.deliver-in-Ok-text.ensures.delivers

@@ -1,0 +1,40 @@
+-- Words that are read as a seed ask for its product file, and need no file.
+use Rattle.std.proofs.Common.{◌≡◌, ℕ, List, inl, inr, ◌⊎◌, ◌∙◌, subst, ap}
+use Rattle.std.specs.Prelude.{Option}
+use Rattle.command_words.specs.Readings.{Request, Generate, AreReadAs}
+use Rattle.command_words.proofs.Readings.{readings_are_one}
+use Rattle.thiele_cli.specs.declared.answer.Answer.{Answer}
+use Rattle.thiele_cli.specs.declared.end.End.{End}
+use Rattle.thiele_cli.specs.declared.end.End.TheVariants as end
+use Rattle.thiele_cli.specs.Questions.{OfFile, OfSeed, asked_of, IsAskedOf}
+use Rattle.thiele_cli.specs.Cases.{Files, Case, Generated, IsAskedCase, IsCase}
+use Rattle.thiele_cli.specs.Replies.{end_of, Answers, IsGenerated}
+use Rattle.thiele_cli.specs.Ends.{IsAnswer}
+use Rattle.thiele_cli.specs.Outcome.{Delivers}
+
+-- they come to its case
+seed_case : (files : Files) (words : List (List ℕ)) (seed : ℕ) (case : Case) → AreReadAs words (Generate seed)
+    → IsCase files words case → case ≡ Generated seed
+seed_case files words seed case read (inl x) = absurd (x.0 (Generate seed, read))
+seed_case files words seed case read (inr x) =
+    subst (λ request. IsAskedCase files (asked_of request) case)
+    (readings_are_one words x.0 (Generate seed) x.1 read) x.2
+
+-- and end by it
+pub seed_ends : (files : Files) (words : List (List ℕ)) (seed : ℕ) (given : Answer) (reached : End)
+    (old new : Option (List ℕ)) → AreReadAs words (Generate seed) → IsAnswer files words given
+    → Delivers given reached old new → (reached ≡ end.Done) ⊎ (reached ≡ end.Memory) ⊎ (reached ≡ end.WriteFault)
+seed_ends files words seed given reached old new read a (inl d) =
+    let says : IsGenerated seed given =
+    subst (λ case. Answers case given) (seed_case files words seed a.case read a.holds) a.says in
+    inl (d.0 ∙ ap end_of says.answers)
+seed_ends files words seed given reached old new read a (inr d) = inr (inr d.0)
+
+-- nothing is asked of a file
+pub no_file_of_seed : (words : List (List ℕ)) (request : Request) (seed : ℕ) (file : List ℕ)
+    → AreReadAs words request → IsAskedOf (asked_of request) file → AreReadAs words (Generate seed) → ⊥
+no_file_of_seed words request seed file read asked of_seed =
+    let other : OfSeed seed ≡ OfFile asked.0 file =
+    subst (λ r. asked_of r ≡ OfFile asked.0 file)
+    (readings_are_one words request (Generate seed) read of_seed) asked.1 in
+    cc
