@@ -1,6 +1,6 @@
 ghost use Rattle.std.proofs.Common.{lit≤};
 
-use crate::{Column, CsvColumn, Note, SignColumn, What, WidthColumn};
+use crate::{Column, CsvColumn, Note, SignColumn, What, WidthColumn, push_columns, tell_rows};
 use std::alloc::AllocError;
 use std::test::Fail;
 
@@ -60,6 +60,23 @@ fn boxed_columns_write_their_lines(rt: HostRuntime) -> Result<(), Fail> {
         assert_eq!(rt; column.kind(), kind);
         assert_eq!(rt; column.text(), wanted.as_bytes());
     }
+    Ok(())
+}
+
+#[test]
+fn all_columns_are_told_of_all_rows(rt: HostRuntime) -> Result<(), Fail> {
+    let alloc = rt.alloc();
+    let mut columns: Vec<Box<dyn Column>> = Vec::new(alloc);
+    columns.push(Box::new(alloc, CsvColumn::new(alloc))?)?;
+    columns.push(Box::new(alloc, SignColumn::new(alloc))?)?;
+    tell_rows(&mut columns, &[OPEN, NOTHING])?;
+    tell_rows(&mut columns, &[DEBT])?;
+    let mut text = b"end 3\n".to_vec(alloc)?;
+    push_columns(&mut text, &columns)?;
+    let wanted =
+        "end 3\ncolumn 3\n12,0,reserve,-0.000001,0.000002\n1,1,occupancy,0.000000,0.000000\n\
+        1200,11,value,-2.500000,-2.499999\ncolumn 2\n12 0 ?\n1 1 0\n1200 11 -\n";
+    assert_eq!(rt; text.as_slice(), wanted.as_bytes());
     Ok(())
 }
 

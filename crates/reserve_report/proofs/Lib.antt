@@ -5,4 +5,5 @@ mod RowLines
 mod Shapes
 mod SmallRadii
 mod TablePlaces
+mod ToldRows
 mod TwoLines

@@ -3,6 +3,7 @@ use Rattle.std.specs.Prelude.{ℕ, List, [], ◌∷◌, ◌++◌, pos, codes, de
 use Rattle.model_specs.specs.Product.{Product}
 use Rattle.report_columns.specs.declared.note.Note.{Note}
 use Rattle.report_columns.specs.Lines.{word_of, in_format}
+use Rattle.report_columns.specs.Columns.{ColumnText, all_told, column_sections}
 use Rattle.reserve_report.specs.declared.report.Kind.{Kind}
 use Rattle.reserve_report.specs.declared.report.Kind.TheVariants as kind
 use Rattle.reserve_report.specs.declared.report.Report.{Report}
@@ -46,8 +47,12 @@ head_lines p r =
     codes "report " ++ kind_word r.kind ++ codes " " ++ p.name ++ codes "\ndegree " ++ decimal r.degree
     ++ codes " scale " ++ decimal r.scale ++ codes "\n"
 
--- the whole text: the first two lines, the rows, and their number
-abbrev pub report_text : Product → Report → List ℕ
-report_text p r =
+-- the text up to the columns: the first two lines, the rows, and their number
+abbrev pub rows_text : Product → Report → List ℕ
+rows_text p r =
     head_lines p r ++ row_lines p r.rows.items r.tolerance.items ++ codes "end " ++ decimal (length r.rows.items)
     ++ codes "\n"
+
+-- the whole text, of columns as they were handed in: each is told of the rows, and they stand below them
+abbrev pub report_text : Product → Report → List ColumnText → List ℕ
+report_text p r columns = rows_text p r ++ column_sections (all_told r.rows.items columns)

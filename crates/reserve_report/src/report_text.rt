@@ -1,14 +1,15 @@
 // The text of a report.
-ghost use Rattle.std.specs.Prelude.{◌≡◌, ◌++◌, ◌<◌, All, length, pos, OnOk, IfOk};
+ghost use Rattle.std.specs.Prelude.{◌≡◌, ◌++◌, ◌<◌, All, length, pos, OnOk, OnErr, IfOk};
+ghost use Rattle.report_columns.specs.Columns.{all_told, columns_of, AreToldFirst};
 ghost use Rattle.report_columns.specs.Lines.{in_format};
 ghost use Rattle.reserve_report.specs.Reports.{HasText};
 ghost use Rattle.reserve_report.specs.ReportText.{kind_word, row_subject, row_interval, row_line};
-ghost use Rattle.reserve_report.specs.ReportText.{row_lines, head_lines, report_text};
+ghost use Rattle.reserve_report.specs.ReportText.{row_lines, head_lines, rows_text, report_text};
 
 use crate::report::{Kind, Report};
 use decimal_out::{push_size, push_whole};
 use product_model::Product;
-use report_columns::{Note, What, push_number};
+use report_columns::{Column, Note, What, push_columns, push_number, tell_rows};
 use std::alloc::{AllocError, Global};
 
 impl Kind {
@@ -109,20 +110,41 @@ fn push_rows(
     Ok(())
 }
 
-/// The text of a report about a product.
+// The text up to the columns.
+fn rows_bytes(alloc: Global, product: &Product, report: &Report) -> Result<Vec<u8>, AllocError>
+    requires { HasText product.now report.now }
+    ensures { IfOk result (λ bytes. bytes.items ≡ rows_text product.now report.now) }
+{
+    let mut bytes = Vec::new(alloc);
+    push_head(&mut bytes, product, report)?;
+    push_rows(&mut bytes, product, &report.rows, &report.tolerance)?;
+    bytes.extend_from_slice(b"end ")?;
+    push_whole(&mut bytes, report.rows.len())?;
+    bytes.push(b'\n')?;
+    Ok(bytes)
+}
+
+/// The text of a report about a product. Each column is told of each row, the rows in order and for each row the columns
+/// in order, and then the columns stand below the rows. Where memory is refused, a column keeps the lines of the rows
+/// that it was told of.
 pub fn report_bytes(
     alloc: Global,
     product: &Product,
     report: &Report,
+    columns: &mut Vec<Box<dyn Column>>,
 ) -> Result<Vec<u8>, AllocError>
     requires { HasText product.now report.now }
-    ensures { IfOk result (λ text. text.items ≡ report_text product.now report.now) }
+    ensures text { IfOk result
+        (λ bytes. bytes.items ≡ report_text product.now report.now (columns_of kind text columns.old.items)) }
+    ensures told { OnOk result
+        (columns_of kind text columns.new.items
+        ≡ all_told report.now.rows.items (columns_of kind text columns.old.items)) }
+    ensures err { OnErr result
+        (AreToldFirst report.now.rows.items
+        (columns_of kind text columns.old.items) (columns_of kind text columns.new.items)) }
 {
-    let mut text = Vec::new(alloc);
-    push_head(&mut text, product, report)?;
-    push_rows(&mut text, product, &report.rows, &report.tolerance)?;
-    text.extend_from_slice(b"end ")?;
-    push_whole(&mut text, report.rows.len())?;
-    text.push(b'\n')?;
-    Ok(text)
+    tell_rows(columns, &report.rows)?;
+    let mut bytes = rows_bytes(alloc, product, report)?;
+    push_columns(&mut bytes, columns)?;
+    Ok(bytes)
 }

@@ -1,10 +1,12 @@
+ghost use Rattle.std.proofs.Common.{lit≤};
+
 use crate::{Kind, Report, report_bytes};
 use curve_pieces::{Curve, Piece};
 use payment_plan::{Lump, PatternRule, Plan};
 use product_model::Product;
-use report_columns::{Note, What};
+use report_columns::{Column, CsvColumn, Note, SignColumn, What, WidthColumn};
 use state_graph::Graph;
-use std::alloc::Global;
+use std::alloc::{AllocError, Global};
 use std::test::Fail;
 
 const AT_ISSUE: Note = Note {
@@ -120,7 +122,7 @@ fn a_report_is_written(rt: HostRuntime) -> Result<(), Fail> {
         tolerance: [3, 11_234_567].to_vec(alloc)?,
         rows: [AT_ISSUE, LATER].to_vec(alloc)?,
     };
-    let text = report_bytes(alloc, &product, &report)?;
+    let text = report_bytes(alloc, &product, &report, &mut Vec::new(alloc))?;
     let wanted = b"report value endowment\n\
         degree 24 scale 10\n\
         0 off value -0.000001 0.000002 0.000003\n\
@@ -142,7 +144,7 @@ fn reserves_are_written_by_date_and_state(rt: HostRuntime) -> Result<(), Fail> {
         tolerance: [2, 1_000_000].to_vec(alloc)?,
         rows: RESERVES.to_vec(alloc)?,
     };
-    let text = report_bytes(alloc, &product, &report)?;
+    let text = report_bytes(alloc, &product, &report, &mut Vec::new(alloc))?;
     let wanted = b"report reserves endowment\n\
         degree 8 scale 0\n\
         0 on reserve 0.000000 0.000000 0.000002\n\
@@ -164,7 +166,7 @@ fn moments_are_written_in_their_units(rt: HostRuntime) -> Result<(), Fail> {
         tolerance: [2, 3, 4].to_vec(alloc)?,
         rows: MOMENTS.to_vec(alloc)?,
     };
-    let text = report_bytes(alloc, &product, &report)?;
+    let text = report_bytes(alloc, &product, &report, &mut Vec::new(alloc))?;
     let wanted = b"report moments endowment\n\
         degree 9 scale 7\n\
         0 off first 100.000000 100.000000 0.000002\n\
@@ -172,5 +174,89 @@ fn moments_are_written_in_their_units(rt: HostRuntime) -> Result<(), Fail> {
         0 off variance -1 2 4\n\
         end 3\n";
     assert_eq!(rt; text.as_slice(), wanted.as_slice());
+    Ok(())
+}
+
+#[test]
+fn columns_stand_below_the_rows(rt: HostRuntime) -> Result<(), Fail> {
+    let alloc = rt.alloc();
+    let product = endowment(alloc)?;
+    assert_eq!(rt; product.graph().states(), 2);
+    let report = Report {
+        kind: Kind::Value,
+        degree: 24,
+        scale: 10,
+        tolerance: [3, 11_234_567].to_vec(alloc)?,
+        rows: [AT_ISSUE, LATER].to_vec(alloc)?,
+    };
+    let mut columns: Vec<Box<dyn Column>> = Vec::new(alloc);
+    columns.push(Box::new(alloc, WidthColumn::new(alloc))?)?;
+    columns.push(Box::new(alloc, SignColumn::new(alloc))?)?;
+    columns.push(Box::new(alloc, CsvColumn::new(alloc))?)?;
+    let text = report_bytes(alloc, &product, &report, &mut columns)?;
+    let wanted = b"report value endowment\n\
+        degree 24 scale 10\n\
+        0 off value -0.000001 0.000002 0.000003\n\
+        12 on value -1.234567 10.000000 11.234567\n\
+        end 2\n\
+        column 1\n0 1 0.000003\n12 0 11.234567\n\
+        column 2\n0 1 ?\n12 0 ?\n\
+        column 3\n0,1,value,-0.000001,0.000002\n12,0,value,-1.234567,10.000000\n";
+    assert_eq!(rt; text.as_slice(), wanted.as_slice());
+    Ok(())
+}
+
+// A column of a caller: its third note is refused.
+#[derive(Drop)]
+struct FailingColumn {
+    inner: SignColumn,
+    notes: u8,
+}
+
+impl Column for FailingColumn {
+    ghost kind = { λ column. ⟦<SignColumn as Column>⟧.kind column.inner };
+
+    ghost text = { λ column. ⟦<SignColumn as Column>⟧.text column.inner };
+
+    fn note(&mut self, note: &Note) -> Result<(), AllocError> {
+        if self.notes == 2 {
+            return Err(AllocError);
+        }
+        self.notes = self.notes.saturating_add(1);
+        self.inner.note(note)
+    }
+
+    fn kind(&self) -> u8 {
+        self.inner.kind()
+    }
+
+    fn text(&self) -> &[u8] {
+        self.inner.text()
+    }
+
+    ghost known = { λ _. record { least = lit≤ tt; most = lit≤ tt } };
+}
+
+#[test]
+fn a_column_that_fails_keeps_its_lines(rt: HostRuntime) -> Result<(), Fail> {
+    let alloc = rt.alloc();
+    let product = endowment(alloc)?;
+    assert_eq!(rt; product.graph().states(), 2);
+    let report = Report {
+        kind: Kind::Moments,
+        degree: 9,
+        scale: 7,
+        tolerance: [2, 3, 4].to_vec(alloc)?,
+        rows: MOMENTS.to_vec(alloc)?,
+    };
+    let failing = FailingColumn {
+        inner: SignColumn::new(alloc),
+        notes: 0,
+    };
+    let mut columns: Vec<Box<dyn Column>> = Vec::new(alloc);
+    columns.push(Box::new(alloc, failing)?)?;
+    let text = report_bytes(alloc, &product, &report, &mut columns);
+    assert!(rt; text.is_err());
+    assert_eq!(rt; columns[0].text(), b"0 1 +\n0 1 +\n".as_slice());
     Ok(())
 }

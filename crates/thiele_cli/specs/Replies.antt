@@ -1,5 +1,6 @@
 -- What each case is answered by, and how an answer ends, reports and reads.
-use Rattle.std.specs.Prelude.{◌≡◌, ◌⊎◌, ℕ, ◌+◌, ◌^◌, ◌≤◌, ℤ, unsigned_abs, List, Option, Some, None, ⊤, Vec}
+use Rattle.std.specs.Prelude.{◌≡◌, ◌⊎◌, ℕ, ◌+◌, ◌^◌, ◌≤◌, ℤ, unsigned_abs, List, [], Option, Some, None}
+use Rattle.std.specs.Prelude.{⊤, Vec}
 use Rattle.std.specs.declared.alloc.Global.{Global}
 use Rattle.named_numbers.specs.Numbers.{most_file_bytes, highest_degree}
 use Rattle.model_specs.specs.Product.{Product}
@@ -41,7 +42,7 @@ report_of (answer.Refused why) = None
 -- the text of an answer
 abbrev pub text_of : Answer → List ℕ
 text_of (answer.Limits product) = check_text product
-text_of (answer.Report product report) = report_text product report
+text_of (answer.Report product report) = report_text product report []
 text_of (answer.Generated text) = text.items
 text_of (answer.Refused why) = line_of why
 

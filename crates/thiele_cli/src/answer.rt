@@ -41,7 +41,9 @@ impl Answer {
     {
         match self {
             Answer::Limits(admitted) => check_bytes(alloc, admitted),
-            Answer::Report(admitted, report) => report_bytes(alloc, admitted.product(), report),
+            Answer::Report(admitted, report) => {
+                report_bytes(alloc, admitted.product(), report, &mut Vec::new(alloc))
+            }
             Answer::Generated(text) => text.clone(),
             Answer::Refused(why) => why.line(alloc),
         }
