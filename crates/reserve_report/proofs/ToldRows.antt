@@ -22,5 +22,5 @@ pub sections_below : {C : Type 0} (kind : C → ℕ) (text : C → List ℕ) (ro
     → bytes ≡ start ++ column_sections (all_told rows (columns_of kind text old))
 sections_below kind text rows given old new shown start above bytes same same_columns told above_is bytes_are =
     let columns : columns_of kind text shown ≡ all_told rows (columns_of kind text old) =
-        ap (columns_of kind text) same_columns ∙ told ∙ ap (λ list. all_told list (columns_of kind text old)) same in
+    ap (columns_of kind text) same_columns ∙ told ∙ ap (λ list. all_told list (columns_of kind text old)) same in
     bytes_are ∙ (λ k. above_is k ++ column_sections (columns k))

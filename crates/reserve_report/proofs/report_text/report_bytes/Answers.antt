@@ -18,7 +18,7 @@ returns-in_err-bytes-clause-err g c =
 pub returns-in_err-push_columns-clause-err : goal.returns-in_err-push_columns-clause-err
 returns-in_err-push_columns-clause-err g c =
     let is =
-        err_from_is_err_and c.from_residual-in_err-push_columns.result c.from_residual-in_err-push_columns.ensures.1 in
+    err_from_is_err_and c.from_residual-in_err-push_columns.result c.from_residual-in_err-push_columns.ensures.1 in
     rw is.1
     (all_of_same c.args.report.now.rows.items c.deref.result.now _ _ c.deref.ensures.value c.in_ok-tell_rows.ensures.ok)
 
