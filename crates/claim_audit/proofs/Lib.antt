@@ -1,0 +1,5 @@
+pub mod ClaimLists
+pub mod Digits
+pub mod FoundClaims
+pub mod Nearness
+pub mod ThreeFields

@@ -1,0 +1,9 @@
+use Rattle.std.proofs.Common.{◌≡◌, ◌<◌, ◌^◌, take}
+use Rattle.claim_audit.specs.Decimals.{value_of}
+use Rattle.claim_audit.proofs.decimals.value.Given as goal
+
+abbrev pub invariant-loop-digit : goal.invariant-loop-digit
+invariant-loop-digit l = record {
+  value : l.sum ≡ value_of (take l.digit-index l.digits);
+  small : l.sum < 10 ^ l.digit-index;
+}

@@ -1,0 +1,5 @@
+pub mod Claims
+pub mod Decimals
+pub mod Findings
+pub mod Marks
+pub mod Readings

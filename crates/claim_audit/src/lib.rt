@@ -1,0 +1,19 @@
+//! Checks claimed reserves against the exact ones.
+#![tactic(auto)]
+
+mod claims;
+mod decimals;
+mod finding;
+mod findings;
+mod reading;
+mod rows;
+
+pub use claims::{Claimed, Fault, claim_of, is_header};
+pub use decimals::{millionths, whole};
+pub use finding::{Finding, mark};
+pub use findings::{Claim, findings_of};
+pub use reading::{AuditError, read_claims};
+pub use rows::all_rows;
+
+#[cfg(test)]
+mod tests;
