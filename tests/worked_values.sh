@@ -28,6 +28,21 @@ def rows_of(lines):
     return rows
 
 
+def columns_of(words, rows):
+    """The lines of the columns that these rows have: their widths, their signs, and their fields."""
+    states = tomllib.loads((folder / words[1]).read_text(encoding="utf-8"))["states"]
+    widths, signs, fields = [], [], []
+    for (month, state, what), (low, high, _) in rows.items():
+        place, least, most = states.index(state), Fraction(low), Fraction(high)
+        digits = 0 if what in ("second", "variance") else 6
+        width = str(int((most - least) * 10**digits)).rjust(digits + 1, "0")
+        widths.append(f"{month} {place} " + (f"{width[:-digits]}.{width[-digits:]}" if digits else width))
+        sign = "+" if least > 0 else "-" if most < 0 else "0" if least == most == 0 else "?"
+        signs.append(f"{month} {place} {sign}")
+        fields.append(f"{month},{place},{what},{low},{high}")
+    return ["column 1", *widths, "column 2", *signs, "column 3", *fields, ""]
+
+
 def other_reserves(words, rows):
     """The first moments that are not the same bytes as the reserves of the same dates."""
     ran = subprocess.run([program, "reserves", *words[1:]], cwd=folder, capture_output=True, text=True)
@@ -58,6 +73,8 @@ def faults(words, wanted):
         told.append(f"another head: {lines[0]}, {lines[1]}")
     if f"end {len(rows)}" not in lines:
         told.append(f"another count of rows than {len(rows)}")
+    if lines[2 + len(rows) + 1 :] != columns_of(words, rows):
+        told.append("other columns than those of the rows")
     if words[0] == "moments":
         told += other_reserves(words, rows)
     for line in wanted:

@@ -9,7 +9,7 @@ use Rattle.thiele_cli.specs.declared.end.End.TheVariants as end
 use Rattle.thiele_cli.specs.Cases.{Files, Case, IsCase}
 use Rattle.thiele_cli.specs.Replies.{end_of, report_of, Answers}
 use Rattle.thiele_cli.specs.Ends.{IsFault, IsAnswer, LeadTo, LeadToReport, ComesBy}
-use Rattle.thiele_cli.specs.Outcome.{Delivers}
+use Rattle.thiele_cli.specs.Outcome.{EndsAs}
 use Rattle.thiele_cli.proofs.OneCase.{one_case}
 
 -- over told files the answer is one of any case that the words and the files come to
@@ -24,16 +24,16 @@ one_end : (files : Files) (words : List (List ℕ)) (given : Answer) (own : End)
 one_end files words given own told a cause = cause.leads given (of_case files words given cause.case told a cause.holds)
 
 -- an end that is no fault comes by its cases
-pub comes_by : (files : Files) (words failed now : List (List ℕ)) (given : Answer) (reached : End)
-    (old new : Option (List ℕ)) (own : End) → IsAnswer files words given → Delivers given reached old new
-    → ¬ IsFault own → ComesBy files words failed now reached own
-comes_by files words failed now given reached old new own a (inl d) sound = record {
-  only = λ e. record { given = given; is_answer = a; ends = sym e ∙ d.0 };
-  always = λ told same cause. inl (d.0 ∙ one_end files words given own told a cause);
+pub comes_by : (files : Files) (words failed now : List (List ℕ)) (given : Answer) (reached own : End)
+    → IsAnswer files words given → EndsAs given reached → ¬ IsFault own
+    → ComesBy files words failed now reached own
+comes_by files words failed now given reached own a (inl ends) sound = record {
+  only = λ e. record { given = given; is_answer = a; ends = sym e ∙ ends };
+  always = λ told same cause. inl (ends ∙ one_end files words given own told a cause);
 }
-comes_by files words failed now given reached old new own a (inr d) sound = record {
-  only = λ e. absurd (sound (subst IsFault (sym d.0 ∙ e) tt));
-  always = λ told same cause. inr (inr d.0);
+comes_by files words failed now given reached own a (inr fault) sound = record {
+  only = λ e. absurd (sound (subst IsFault (sym fault ∙ e) tt));
+  always = λ told same cause. inr (inr fault);
 }
 
 -- a report is handed back
@@ -43,11 +43,10 @@ reported files words given report a is cause told =
     subst IsSome (sym is) (cause.reports given (of_case files words given cause.case told a cause.holds))
 
 -- with no fault of the sink each case has its end
-pub completes : (files : Files) (words : List (List ℕ)) (given : Answer) (reached own : End)
-    (old new : Option (List ℕ)) (Faulty : Type 0) → IsAnswer files words given → Delivers given reached old new
-    → LeadTo files words own → IsSome files → (reached ≡ end.WriteFault → Faulty) → ¬ Faulty
-    → (reached ≡ own) ⊎ (reached ≡ end.Memory)
-completes files words given reached own old new Faulty a (inl d) cause told faulty sound =
-    inl (d.0 ∙ one_end files words given own told a cause)
-completes files words given reached own old new Faulty a (inr d) cause told faulty sound =
-    absurd (sound (faulty d.0))
+pub completes : (files : Files) (words : List (List ℕ)) (given : Answer) (reached own : End) (Faulty : Type 0)
+    → IsAnswer files words given → EndsAs given reached → LeadTo files words own → IsSome files
+    → (reached ≡ end.WriteFault → Faulty) → ¬ Faulty → (reached ≡ own) ⊎ (reached ≡ end.Memory)
+completes files words given reached own Faulty a (inl ends) cause told faulty sound =
+    inl (ends ∙ one_end files words given own told a cause)
+completes files words given reached own Faulty a (inr fault) cause told faulty sound =
+    absurd (sound (faulty fault))

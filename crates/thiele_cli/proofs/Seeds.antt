@@ -1,6 +1,5 @@
 -- Words that are read as a seed ask for its product file, and need no file.
 use Rattle.std.proofs.Common.{◌≡◌, ℕ, List, inl, inr, ◌⊎◌, ◌∙◌, subst, ap}
-use Rattle.std.specs.Prelude.{Option}
 use Rattle.command_words.specs.Readings.{Request, Generate, AreReadAs}
 use Rattle.command_words.proofs.Readings.{readings_are_one}
 use Rattle.thiele_cli.specs.declared.answer.Answer.{Answer}
@@ -10,7 +9,7 @@ use Rattle.thiele_cli.specs.Questions.{OfFile, OfSeed, asked_of, IsAskedOf}
 use Rattle.thiele_cli.specs.Cases.{Files, Case, Generated, IsAskedCase, IsCase}
 use Rattle.thiele_cli.specs.Replies.{end_of, Answers, IsGenerated}
 use Rattle.thiele_cli.specs.Ends.{IsAnswer}
-use Rattle.thiele_cli.specs.Outcome.{Delivers}
+use Rattle.thiele_cli.specs.Outcome.{EndsAs}
 
 -- they come to its case
 seed_case : (files : Files) (words : List (List ℕ)) (seed : ℕ) (case : Case) → AreReadAs words (Generate seed)
@@ -22,13 +21,13 @@ seed_case files words seed case read (inr x) =
 
 -- and end by it
 pub seed_ends : (files : Files) (words : List (List ℕ)) (seed : ℕ) (given : Answer) (reached : End)
-    (old new : Option (List ℕ)) → AreReadAs words (Generate seed) → IsAnswer files words given
-    → Delivers given reached old new → (reached ≡ end.Done) ⊎ (reached ≡ end.Memory) ⊎ (reached ≡ end.WriteFault)
-seed_ends files words seed given reached old new read a (inl d) =
+    → AreReadAs words (Generate seed) → IsAnswer files words given → EndsAs given reached
+    → (reached ≡ end.Done) ⊎ (reached ≡ end.Memory) ⊎ (reached ≡ end.WriteFault)
+seed_ends files words seed given reached read a (inl ends) =
     let says : IsGenerated seed given =
     subst (λ case. Answers case given) (seed_case files words seed a.case read a.holds) a.says in
-    inl (d.0 ∙ ap end_of says.answers)
-seed_ends files words seed given reached old new read a (inr d) = inr (inr d.0)
+    inl (ends ∙ ap end_of says.answers)
+seed_ends files words seed given reached read a (inr fault) = inr (inr fault)
 
 -- nothing is asked of a file
 pub no_file_of_seed : (words : List (List ℕ)) (request : Request) (seed : ℕ) (file : List ℕ)

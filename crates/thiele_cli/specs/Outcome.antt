@@ -2,6 +2,7 @@
 use Rattle.std.specs.Prelude.{◌≡◌, ◌⊎◌, ℕ, ◌<◌, List, length, Option, None}
 use Rattle.std.specs.Io.KnownBytes.{Appends, Keeps}
 use Rattle.io_ports.specs.Growth.{AppendsPrefix}
+use Rattle.report_columns.specs.Columns.{ColumnText}
 use Rattle.reserve_report.specs.declared.report.Report.{Report}
 use Rattle.thiele_cli.specs.declared.answer.Answer.{Answer}
 use Rattle.thiele_cli.specs.declared.end.End.{End}
@@ -11,19 +12,26 @@ use Rattle.thiele_cli.specs.Cases.{Files}
 use Rattle.thiele_cli.specs.Replies.{end_of, report_of, text_of}
 use Rattle.thiele_cli.specs.Ends.{IsAnswer}
 
--- told bytes grew by the text of the answer, and the end is the answer's; or by a prefix of it, which is not empty as a
--- whole, at a fault of the sink
-abbrev pub Delivers : Answer → End → Option (List ℕ) → Option (List ℕ) → Type 0
-Delivers given own old new =
-    ((own ≡ end_of given) × Appends old new (text_of given))
-    ⊎ ((own ≡ WriteFault) × (0 < length (text_of given)) × AppendsPrefix old new (text_of given))
+-- told bytes grew by the text, and the end is the one that was meant; or by a prefix of the text, which is not empty
+-- as a whole, at a fault of the sink
+abbrev pub Delivers : (text : List ℕ) → (meant own : End) → Option (List ℕ) → Option (List ℕ) → Type 0
+Delivers text meant own old new =
+    ((own ≡ meant) × Appends old new text)
+    ⊎ ((own ≡ WriteFault) × (0 < length text) × AppendsPrefix old new text)
+
+-- a run with this answer ends as the answer does, or with a write fault
+abbrev pub EndsAs : Answer → End → Type 0
+EndsAs given own = (own ≡ end_of given) ⊎ (own ≡ WriteFault)
 
 -- there is no answer: the file that the words name was not fetched, or memory was refused
 abbrev pub HaveNoAnswer : List (List ℕ) → End → Type 0
 HaveNoAnswer words own = ((own ≡ FetchFault) × (file : List ℕ) × AskAbout words file) ⊎ (own ≡ Memory)
 
--- nothing is written where there is no answer; else the answer is that of the words and the files, with its report
-abbrev pub Writes : Files → List (List ℕ) → End → Option Report → Option (List ℕ) → Option (List ℕ) → Type 0
-Writes files words own report old new =
+-- nothing is written where there is no answer; else the answer is that of the words and the files, with its report and
+-- these columns behind it
+abbrev pub Writes : Files → List (List ℕ) → List ColumnText → End → Option Report → Option (List ℕ)
+    → Option (List ℕ) → Type 0
+Writes files words columns own report old new =
     (HaveNoAnswer words own × (report ≡ None) × Keeps old new)
-    ⊎ ((given : Answer) × IsAnswer files words given × (report ≡ report_of given) × Delivers given own old new)
+    ⊎ ((given : Answer) × IsAnswer files words given × (report ≡ report_of given)
+    × Delivers (text_of given columns) (end_of given) own old new)

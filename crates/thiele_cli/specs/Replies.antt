@@ -1,10 +1,11 @@
 -- What each case is answered by, and how an answer ends, reports and reads.
-use Rattle.std.specs.Prelude.{◌≡◌, ◌⊎◌, ℕ, ◌+◌, ◌^◌, ◌≤◌, ℤ, unsigned_abs, List, [], Option, Some, None}
+use Rattle.std.specs.Prelude.{◌≡◌, ◌⊎◌, ℕ, ◌+◌, ◌^◌, ◌≤◌, ℤ, unsigned_abs, List, Option, Some, None}
 use Rattle.std.specs.Prelude.{⊤, Vec}
 use Rattle.std.specs.declared.alloc.Global.{Global}
 use Rattle.named_numbers.specs.Numbers.{most_file_bytes, highest_degree}
 use Rattle.model_specs.specs.Product.{Product}
 use Rattle.product_file.specs.Verdict.{ReadsAs, IsValid}
+use Rattle.report_columns.specs.Columns.{ColumnText}
 use Rattle.reserve_report.specs.declared.report.Report.{Report}
 use Rattle.reserve_report.specs.declared.report.Kind.TheVariants as kind
 use Rattle.reserve_report.specs.Reports.{HasText, IsReport}
@@ -39,12 +40,12 @@ report_of (answer.Report product report) = Some report
 report_of (answer.Generated text) = None
 report_of (answer.Refused why) = None
 
--- the text of an answer
-abbrev pub text_of : Answer → List ℕ
-text_of (answer.Limits product) = check_text product
-text_of (answer.Report product report) = report_text product report []
-text_of (answer.Generated text) = text.items
-text_of (answer.Refused why) = line_of why
+-- the text of an answer, with these columns behind a report
+abbrev pub text_of : Answer → List ColumnText → List ℕ
+text_of (answer.Limits product) columns = check_text product
+text_of (answer.Report product report) columns = report_text product report columns
+text_of (answer.Generated text) columns = text.items
+text_of (answer.Refused why) columns = line_of why
 
 -- a refusal has a line: the number that it tells is not too large for it
 abbrev pub HasLine : Refusal → Type 0

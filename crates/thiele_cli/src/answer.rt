@@ -1,10 +1,12 @@
 // What a run answers, before it is text.
 ghost use Rattle.std.specs.Prelude.{◌≡◌, IfOk};
+ghost use Rattle.report_columns.specs.Columns.{columns_of};
 ghost use Rattle.thiele_cli.specs.Replies.{end_of, report_of, text_of, IsPrintable};
 
 use crate::end::End;
 use crate::refusal::Refusal;
 use rate_bounds::Admitted;
+use report_columns::Column;
 use reserve_report::{Report, check_bytes, report_bytes};
 use std::alloc::{AllocError, Global};
 
@@ -34,15 +36,19 @@ impl Answer {
         }
     }
 
-    /// The text that is to be written.
-    pub fn text(&self, alloc: Global) -> Result<Vec<u8>, AllocError>
+    /// The text that is to be written. Columns are told of the rows of a report, and their texts stand behind it.
+    pub fn text(
+        &self,
+        alloc: Global,
+        columns: &mut Vec<Box<dyn Column>>,
+    ) -> Result<Vec<u8>, AllocError>
         requires { IsPrintable self.now }
-        ensures { IfOk result (λ text. text.items ≡ text_of self.now) }
+        ensures { IfOk result (λ bytes. bytes.items ≡ text_of self.now (columns_of kind text columns.old.items)) }
     {
         match self {
             Answer::Limits(admitted) => check_bytes(alloc, admitted),
             Answer::Report(admitted, report) => {
-                report_bytes(alloc, admitted.product(), report, &mut Vec::new(alloc))
+                report_bytes(alloc, admitted.product(), report, columns)
             }
             Answer::Generated(text) => text.clone(),
             Answer::Refused(why) => why.line(alloc),

@@ -14,9 +14,11 @@ mod tests;
 mod valuation;
 mod verdict;
 
-use end::End;
+use end::{End, Finish};
 use io_ports::{FileShelf, StdSink};
+use report_columns::{Column, CsvColumn, SignColumn, WidthColumn};
 use run::run;
+use std::alloc::AllocError;
 use std::process::ExitCode;
 use std::{env, io};
 
@@ -31,6 +33,18 @@ fn words_of(rt: &HostRuntime) -> io::Result<Vec<String>> {
     Ok(words)
 }
 
+/// The run of these words on the files of the system and standard output, with three columns behind a report.
+fn run_here(rt: &HostRuntime, words: &[String]) -> Result<Finish, AllocError> {
+    let alloc = rt.alloc();
+    let mut columns: Vec<Box<dyn Column>> = Vec::new(alloc);
+    columns.push(Box::new(alloc, WidthColumn::new(alloc))?)?;
+    columns.push(Box::new(alloc, SignColumn::new(alloc))?)?;
+    columns.push(Box::new(alloc, CsvColumn::new(alloc))?)?;
+    let mut shelf = FileShelf::new(rt, alloc);
+    let mut sink = StdSink::new(io::writer(rt));
+    Ok(run(alloc, words, &mut shelf, &mut sink, columns))
+}
+
 fn main(rt: HostRuntime) -> ExitCode {
     let words = match words_of(&rt) {
         Ok(words) => words,
@@ -40,8 +54,8 @@ fn main(rt: HostRuntime) -> ExitCode {
         }
         Err(_) => return ExitCode::from(End::BadWords.status()),
     };
-    let mut shelf = FileShelf::new(&rt, rt.alloc());
-    let mut sink = StdSink::new(io::writer(&rt));
-    let finish = run(rt.alloc(), &words, &mut shelf, &mut sink);
-    ExitCode::from(finish.status)
+    match run_here(&rt, &words) {
+        Ok(finish) => ExitCode::from(finish.status),
+        Err(_) => ExitCode::from(End::Memory.status()),
+    }
 }

@@ -2,10 +2,11 @@
 ghost use Rattle.std.specs.Prelude.{◌≡◌, ◌≢◌, ◌⊎◌, ℕ, IsSome};
 ghost use Rattle.io_ports.specs.Counts.{Rose};
 ghost use Rattle.command_words.specs.Readings.{words_of, Generate, AreReadAs, HaveReading};
+ghost use Rattle.report_columns.specs.Columns.{columns_of};
 ghost use Rattle.thiele_cli.specs.Questions.{AskAbout};
-ghost use Rattle.thiele_cli.specs.Replies.{report_of, text_of};
+ghost use Rattle.thiele_cli.specs.Replies.{end_of, report_of};
 ghost use Rattle.thiele_cli.specs.Ends.{ComesBy, IsFault, LeadTo, LeadToReport, NotesFailure, status_of};
-ghost use Rattle.thiele_cli.specs.Outcome.{Delivers, Writes};
+ghost use Rattle.thiele_cli.specs.Outcome.{Delivers, EndsAs, Writes};
 
 use crate::answer::Answer;
 use crate::command_answer::command_answer;
@@ -15,14 +16,15 @@ use crate::pieces::write_pieces;
 use crate::refusal::Refusal;
 use command_words::read_words;
 use io_ports::{Shelf, Sink};
+use report_columns::Column;
 use std::alloc::Global;
 
 /// Hands over the text of an answer, and ends as the answer does or with a write fault.
 fn deliver<K: Sink>(sink: &mut K, answer: Answer, text: &[u8]) -> Finish
-    requires { text.now ≡ text_of answer }
     ensures status { result.status ≡ status_of result.end }
     ensures report { result.report ≡ report_of answer }
-    ensures delivers { Delivers answer result.end (K.written sink.old) (K.written sink.new) }
+    ensures ends { EndsAs answer result.end }
+    ensures delivers { Delivers text.now (end_of answer) result.end (K.written sink.old) (K.written sink.new) }
     ensures write_fault { result.end ≡ End.WriteFault → Rose (K.faults sink.old) (K.faults sink.new) }
     ensures no_write_fault { result.end ≢ End.WriteFault → K.faults sink.new ≡ K.faults sink.old }
 {
@@ -33,18 +35,20 @@ fn deliver<K: Sink>(sink: &mut K, answer: Answer, text: &[u8]) -> Finish
 }
 
 /// The top call: reads the words, fetches and reads the file that they name, if any, and writes what they ask for, or
-/// the line that refuses it. All memory is taken before the first byte is written.
+/// the line that refuses it. All memory is taken before the first byte is written, and the columns are dropped with the
+/// call.
 pub fn run<H: Shelf, K: Sink>(
     alloc: Global,
     words: &[String],
     shelf: &mut H,
     sink: &mut K,
+    mut columns: Vec<Box<dyn Column>>,
 ) -> Finish
     ensures status { result.status ≡ status_of result.end }
 
-    // What was written, and that the report is right: the headline.
-    ensures written { Writes (H.files shelf.old) (words_of words.now) result.end result.report
-        (K.written sink.old) (K.written sink.new) }
+    // What was written, with the columns behind a report, and that the report is right: the headline.
+    ensures written { Writes (H.files shelf.old) (words_of words.now) (columns_of kind text columns.items)
+        result.end result.report (K.written sink.old) (K.written sink.new) }
 
     // When each end comes, and that it comes wherever its case is known: `Done` and each refusal.
     ensures causes { (own : End) → ¬ IsFault own →
@@ -81,7 +85,7 @@ pub fn run<H: Shelf, K: Sink>(
         Err(Fault::Fetch) => return Finish::of(End::FetchFault, None),
         Err(Fault::Memory) => return Finish::of(End::Memory, None),
     };
-    match answer.text(alloc) {
+    match answer.text(alloc, &mut columns) {
         Ok(text) => deliver(sink, answer, &text),
         Err(_) => Finish::of(End::Memory, None),
     }

@@ -51,6 +51,7 @@ fn each_end_writes_its_text(rt: HostRuntime) -> Result<(), Fail> {
             &words(alloc, &[command, name])?,
             &mut shelf,
             &mut sink,
+            Vec::new(alloc),
         );
         assert!(rt; finish.end == end, "{command} {name}");
         assert_eq!(rt; finish.status, status, "{command} {name}");
@@ -84,6 +85,7 @@ fn check_tells_the_limits(rt: HostRuntime) -> Result<(), Fail> {
             &words(alloc, &["check", name])?,
             &mut shelf,
             &mut sink,
+            Vec::new(alloc),
         );
         assert_eq!(rt; finish.status, 0, "{name}");
         assert!(rt; sink.bytes() == text.as_bytes(), "{name}");
@@ -103,7 +105,13 @@ fn words_that_name_nothing_to_do_are_refused_before_the_fetch(rt: HostRuntime) -
         (&["generate", "-1"], 2, "refused words\n"),
     ] {
         let mut sink = sink(alloc, &[])?;
-        let finish = run(alloc, &words(alloc, texts)?, &mut shelf, &mut sink);
+        let finish = run(
+            alloc,
+            &words(alloc, texts)?,
+            &mut shelf,
+            &mut sink,
+            Vec::new(alloc),
+        );
         assert_eq!(rt; finish.status, status, "{text}");
         assert!(rt; sink.bytes() == text.as_bytes(), "{text}");
     }
@@ -116,15 +124,15 @@ fn a_failing_fetch_and_a_failing_write_come_through(rt: HostRuntime) -> Result<(
     let asked = words(alloc, &["value", "flat"])?;
     let mut shelf = shelf(alloc, &[1])?;
     let mut sink = sink(alloc, &[1])?;
-    let first = run(alloc, &asked, &mut shelf, &mut sink);
+    let first = run(alloc, &asked, &mut shelf, &mut sink, Vec::new(alloc));
     assert_eq!(rt; first.status, 3);
     assert!(rt; sink.bytes().is_empty());
     // the shelf's second call is not listed, and the sink's first call is
-    let second = run(alloc, &asked, &mut shelf, &mut sink);
+    let second = run(alloc, &asked, &mut shelf, &mut sink, Vec::new(alloc));
     assert_eq!(rt; second.status, 8);
     assert!(rt; sink.bytes().is_empty());
     assert!(rt; second.report.is_some());
-    let third = run(alloc, &asked, &mut shelf, &mut sink);
+    let third = run(alloc, &asked, &mut shelf, &mut sink, Vec::new(alloc));
     assert_eq!(rt; third.status, 0);
     Ok(())
 }

@@ -27,6 +27,7 @@ fn values_are_enclosed_within_their_tolerances(rt: HostRuntime) -> Result<(), Fa
             &words(alloc, &["value", name])?,
             &mut shelf(alloc, &[])?,
             &mut sink,
+            Vec::new(alloc),
         );
         let report = finish.report.ok_or("no report")?;
         assert_eq!(rt; report.rows.len(), 1, "{name}");
@@ -50,6 +51,7 @@ fn reserves_stand_by_date_and_then_by_state(rt: HostRuntime) -> Result<(), Fail>
         &words(alloc, &["reserves", "life", "50"])?,
         &mut shelf(alloc, &[])?,
         &mut sink,
+        Vec::new(alloc),
     );
     let report = finish.report.ok_or("no report")?;
     assert_eq!(rt; report.rows.len(), 6);
@@ -81,6 +83,7 @@ fn probabilities_stand_by_date_and_then_by_state(rt: HostRuntime) -> Result<(), 
         &words(alloc, &["occupancy", "life", "120"])?,
         &mut shelf(alloc, &[])?,
         &mut sink,
+        Vec::new(alloc),
     );
     let report = finish.report.ok_or("no report")?;
     assert_eq!(rt; report.rows.len(), 4);
@@ -109,6 +112,7 @@ fn the_moments_of_a_sum_at_death_are_enclosed(rt: HostRuntime) -> Result<(), Fai
         &words(alloc, &["moments", "term", "120"])?,
         &mut shelf(alloc, &[])?,
         &mut sink,
+        Vec::new(alloc),
     );
     let report = finish.report.ok_or("no report")?;
     // two dates and two states
@@ -139,6 +143,7 @@ fn a_sure_lump_has_no_variance(rt: HostRuntime) -> Result<(), Fail> {
         &words(alloc, &["moments", "sure", "1"])?,
         &mut shelf(alloc, &[])?,
         &mut sink,
+        Vec::new(alloc),
     );
     let report = finish.report.ok_or("no report")?;
     assert_eq!(rt; report.rows.len(), 6);
@@ -169,6 +174,7 @@ fn the_premium_of_a_constant_intensity_is_enclosed(rt: HostRuntime) -> Result<()
         &words(alloc, &["premium", "term"])?,
         &mut shelf(alloc, &[])?,
         &mut sink,
+        Vec::new(alloc),
     );
     let report = finish.report.ok_or("no report")?;
     assert_eq!(rt; report.rows.len(), 3);

@@ -15,6 +15,7 @@ fn a_seed_has_a_product_file(rt: HostRuntime) -> Result<(), Fail> {
         &words(alloc, &["generate", "0"])?,
         &mut shelf(alloc, &[1])?,
         &mut sink,
+        Vec::new(alloc),
     );
     assert_eq!(rt; finish.status, 0);
     assert!(rt; finish.report.is_none());
@@ -45,6 +46,7 @@ fn a_second_piece_that_fails_leaves_the_first(rt: HostRuntime) -> Result<(), Fai
         &words(alloc, &["generate", "0"])?,
         &mut shelf(alloc, &[])?,
         &mut sink,
+        Vec::new(alloc),
     );
     assert_eq!(rt; finish.status, 8);
     assert_eq!(rt; sink.bytes().len(), 4096);

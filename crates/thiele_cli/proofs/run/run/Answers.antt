@@ -1,20 +1,29 @@
-use Rattle.std.proofs.Common.{inl, inr, ap, Err}
+use Rattle.std.proofs.Common.{inl, inr, ap, subst, ◌∙◌, Err}
 use Rattle.std.proofs.KnownBytes.{Keeps-refl}
 use Rattle.command_words.specs.Commands.{request_of}
 use Rattle.command_words.specs.Readings.{Generate}
 use Rattle.io_ports.specs.Counts.{Rose}
 use Rattle.thiele_cli.specs.declared.answer.Answer.TheVariants as answer
 use Rattle.thiele_cli.specs.declared.refusal.Refusal.TheVariants as refusal
+use Rattle.thiele_cli.specs.Outcome.{Delivers}
+use Rattle.thiele_cli.specs.Replies.{end_of}
 use Rattle.thiele_cli.proofs.Answered.{request_answers, no_reading_answers}
 use Rattle.thiele_cli.proofs.Causes.{comes_by, reported, completes}
 use Rattle.thiele_cli.proofs.Seeds.{seed_ends, no_file_of_seed}
 use Rattle.thiele_cli.proofs.run.run.Goals as goal
 
+pub returns-in_default-clause-written : goal.returns-in_default-clause-written
+returns-in_default-clause-written g c = inr (
+  answer.Refused refusal.Words,
+  no_reading_answers _ _ c.in_default.ensures.none,
+  c.deliver.ensures.report,
+  c.deliver.ensures.delivers,
+)
+
 pub returns-in_default-clause-causes : goal.returns-in_default-clause-causes
 returns-in_default-clause-causes g c own sound =
-    comes_by _ _ _ _ (answer.Refused refusal.Words) c.deliver.result.end (g.K.Sink.written c.args.sink.now)
-    (g.K.Sink.written c.deliver.new.sink) own (no_reading_answers _ _ c.in_default.ensures.none)
-    c.deliver.ensures.delivers sound
+    comes_by _ _ _ _ (answer.Refused refusal.Words) c.deliver.result.end own
+    (no_reading_answers _ _ c.in_default.ensures.none) c.deliver.ensures.ends sound
 
 pub returns-in_default-clause-reported : goal.returns-in_default-clause-reported
 returns-in_default-clause-reported g c cause told fault =
@@ -23,9 +32,9 @@ returns-in_default-clause-reported g c cause told fault =
 
 pub returns-in_default-clause-complete : goal.returns-in_default-clause-complete
 returns-in_default-clause-complete g c own cause told same calm =
-    completes _ _ (answer.Refused refusal.Words) c.deliver.result.end own (g.K.Sink.written c.args.sink.now)
-    (g.K.Sink.written c.deliver.new.sink) (Rose (g.K.Sink.faults c.args.sink.now) (g.K.Sink.faults c.deliver.new.sink))
-    (no_reading_answers _ _ c.in_default.ensures.none) c.deliver.ensures.delivers cause told
+    completes _ _ (answer.Refused refusal.Words) c.deliver.result.end own
+    (Rose (g.K.Sink.faults c.args.sink.now) (g.K.Sink.faults c.deliver.new.sink))
+    (no_reading_answers _ _ c.in_default.ensures.none) c.deliver.ensures.ends cause told
     c.deliver.ensures.write_fault calm
 
 pub returns-in-Err-Fetch-clause-written : goal.returns-in-Err-Fetch-clause-written
@@ -39,10 +48,9 @@ returns-in-Err-Fetch-clause-written g c =
 
 pub returns-in-Ok-text-clause-causes : goal.returns-in-Ok-text-clause-causes
 returns-in-Ok-text-clause-causes g c own sound =
-    comes_by _ _ _ _ c.in-Ok.answer c.deliver-in-Ok-text.result.end (g.K.Sink.written c.args.sink.now)
-    (g.K.Sink.written c.deliver-in-Ok-text.new.sink) own
+    comes_by _ _ _ _ c.in-Ok.answer c.deliver-in-Ok-text.result.end own
     (request_answers _ _ (request_of c.in-Some.command) c.in-Ok.answer c.in-Some.ensures.some c.in-Ok.ensures.answer)
-    c.deliver-in-Ok-text.ensures.delivers sound
+    c.deliver-in-Ok-text.ensures.ends sound
 
 pub returns-in-Ok-text-clause-reported : goal.returns-in-Ok-text-clause-reported
 returns-in-Ok-text-clause-reported g c cause told fault =
@@ -52,11 +60,20 @@ returns-in-Ok-text-clause-reported g c cause told fault =
 
 pub returns-in-Ok-text-clause-complete : goal.returns-in-Ok-text-clause-complete
 returns-in-Ok-text-clause-complete g c own cause told same calm =
-    completes _ _ c.in-Ok.answer c.deliver-in-Ok-text.result.end own (g.K.Sink.written c.args.sink.now)
-    (g.K.Sink.written c.deliver-in-Ok-text.new.sink)
+    completes _ _ c.in-Ok.answer c.deliver-in-Ok-text.result.end own
     (Rose (g.K.Sink.faults c.args.sink.now) (g.K.Sink.faults c.deliver-in-Ok-text.new.sink))
     (request_answers _ _ (request_of c.in-Some.command) c.in-Ok.answer c.in-Some.ensures.some c.in-Ok.ensures.answer)
-    c.deliver-in-Ok-text.ensures.delivers cause told c.deliver-in-Ok-text.ensures.write_fault calm
+    c.deliver-in-Ok-text.ensures.ends cause told c.deliver-in-Ok-text.ensures.write_fault calm
+
+pub returns-in-Ok-text-clause-written : goal.returns-in-Ok-text-clause-written
+returns-in-Ok-text-clause-written g c = inr (
+  c.in-Ok.answer,
+  request_answers _ _ (request_of c.in-Some.command) c.in-Ok.answer c.in-Some.ensures.some c.in-Ok.ensures.answer,
+  c.deliver-in-Ok-text.ensures.report,
+  subst (λ text. Delivers text (end_of c.in-Ok.answer) c.deliver-in-Ok-text.result.end
+      (g.K.Sink.written c.args.sink.now) (g.K.Sink.written c.deliver-in-Ok-text.new.sink))
+      (c.deref.ensures.value ∙ c.in-Ok-text.ensures) c.deliver-in-Ok-text.ensures.delivers,
+)
 
 pub returns-in-Err-clause-written : goal.returns-in-Err-clause-written
 returns-in-Err-clause-written g c =
@@ -72,7 +89,6 @@ returns-in-Err-Fetch-clause-generated g c seed read =
 
 pub returns-in-Ok-text-clause-generated : goal.returns-in-Ok-text-clause-generated
 returns-in-Ok-text-clause-generated g c seed read =
-    seed_ends _ _ seed c.in-Ok.answer c.deliver-in-Ok-text.result.end (g.K.Sink.written c.args.sink.now)
-    (g.K.Sink.written c.deliver-in-Ok-text.new.sink) read
+    seed_ends _ _ seed c.in-Ok.answer c.deliver-in-Ok-text.result.end read
     (request_answers _ _ (request_of c.in-Some.command) c.in-Ok.answer c.in-Some.ensures.some c.in-Ok.ensures.answer)
-    c.deliver-in-Ok-text.ensures.delivers
+    c.deliver-in-Ok-text.ensures.ends
