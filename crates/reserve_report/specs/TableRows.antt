@@ -5,9 +5,12 @@ use Rattle.fixed_interval.specs.declared.printed.Printed.{Printed}
 use Rattle.fixed_interval.specs.declared.tables.Table.{Table}
 use Rattle.fixed_interval.specs.declared.tables.MomentTable.{MomentTable}
 use Rattle.model_specs.specs.Product.{Product}
+use Rattle.model_specs.specs.Whole.{list_of}
 use Rattle.report_columns.specs.declared.note.Note.{Note}
 use Rattle.report_columns.specs.declared.note.What.{What}
-use Rattle.reserve_report.specs.Reports.{moment_of}
+use Rattle.reserve_report.specs.declared.report.Kind.{Kind}
+use Rattle.reserve_report.specs.declared.report.Report.{Report}
+use Rattle.reserve_report.specs.Reports.{moment_of, what_in}
 
 -- the date of a row is at most the term
 abbrev pub IsInTerm : Product → Note → Type 0
@@ -27,6 +30,10 @@ abbrev pub row_at : What → Table → ℕ → Note
 row_at what t place =
     let ends = slice_index_or t.cells.items place (record { lo = pos 0; hi = pos 0 }) in
     record { month = place / t.states * t.every; state = place % t.states; what = what; lo = ends.lo; hi = ends.hi }
+
+-- the rows of a report are those of a table, place by place
+abbrev pub TellsTable : Kind → Table → Report → Type 0
+TellsTable kind t r = r.rows.items ≡ list_of (length t.cells.items) (row_at (what_in kind) t)
 
 -- the first, the second and the third of the tables
 abbrev pub table_of : MomentTable → ℕ → Table

@@ -3,7 +3,7 @@ ghost use Rattle.std.specs.Prelude.{◌≡◌, ◌<◌, IfOk};
 ghost use Rattle.model_specs.specs.RecordRules.{IsWellFormed};
 ghost use Rattle.reserve_report.specs.Reports.{HasText, IsReport, scale_in, what_in};
 ghost use Rattle.reserve_report.specs.Results.{AreMomentsOf, IsPremiumOf, IsTableOf, IsValueOf, TellsPremium};
-ghost use Rattle.reserve_report.specs.TableRows.{issue_row_of};
+ghost use Rattle.reserve_report.specs.TableRows.{TellsTable, issue_row_of};
 
 use crate::report::{Kind, Report};
 use crate::table_rows::{moment_rows, rows_of};
@@ -77,6 +77,7 @@ pub fn from_table(
     requires every { 0 < t.now.every }
     requires table { IsTableOf adm.now kind t.now }
     ensures report { IfOk result (IsReport adm.now kind t.now.every) }
+    ensures rows { IfOk result (TellsTable kind t.now) }
     ensures text { IfOk result (HasText adm.now) }
 {
     let _months = adm.product().months();

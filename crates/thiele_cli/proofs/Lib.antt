@@ -1,6 +1,7 @@
 pub mod Answered
 pub mod Causes
 pub mod Growth
+pub mod MonthGrids
 pub mod OneCase
 pub mod Premiums
 pub mod Reported

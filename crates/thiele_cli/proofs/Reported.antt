@@ -8,24 +8,17 @@ use Rattle.reserve_report.specs.declared.report.Report.{Report}
 use Rattle.reserve_report.specs.Reports.{IsReport}
 use Rattle.reserve_report.specs.Results.{AreMomentsOf}
 use Rattle.thiele_cli.specs.declared.answer.Answer.TheVariants as answer
-use Rattle.thiele_cli.specs.declared.question.Question.TheVariants.{Reserves, Occupancy, Moments}
+use Rattle.thiele_cli.specs.declared.question.Question.TheVariants.{Occupancy, Moments}
 use Rattle.thiele_cli.specs.Replies.{AnswersQuestion}
 
--- the report of a table of reserves answers for the months that lie between its dates
-pub reserves_are_reported : (product : Product) (report : Report) (dates every : ℕ) → dates ≡ every
-    → IsReport product kind.Reserves dates report → AnswersQuestion (Reserves every) product
-    (answer.Report product report)
-reserves_are_reported product report dates every same right =
-    (report, refl, subst (λ months. IsReport product kind.Reserves months report) same right)
-
--- and so does that of a table of probabilities
+-- the report of a table of probabilities answers for the months that lie between its dates
 pub probabilities_are_reported : (product : Product) (report : Report) (dates every : ℕ) → dates ≡ every
     → IsReport product kind.Occupancy dates report
     → AnswersQuestion (Occupancy every) product (answer.Report product report)
 probabilities_are_reported product report dates every same right =
     (report, refl, subst (λ months. IsReport product kind.Occupancy months report) same right)
 
--- and that of tables of moments
+-- and so does that of tables of moments
 pub moments_are_reported : (product : Product) (report : Report) (dates every : ℕ) → dates ≡ every
     → IsReport product kind.Moments dates report
     → AnswersQuestion (Moments every) product (answer.Report product report)

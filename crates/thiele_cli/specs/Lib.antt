@@ -1,6 +1,7 @@
 pub mod Cases
 pub mod Ends
 pub mod FileAnswers
+pub mod MonthGrids
 pub mod Outcome
 pub mod Premiums
 pub mod Questions

@@ -24,6 +24,7 @@ use Rattle.thiele_cli.specs.declared.answer.Answer.{Answer}
 use Rattle.thiele_cli.specs.declared.answer.Answer.TheVariants as answer
 use Rattle.thiele_cli.specs.Refusals.{refused_end, line_of}
 use Rattle.thiele_cli.specs.Premiums.{HasClosePremium}
+use Rattle.thiele_cli.specs.MonthGrids.{IsReserveReport}
 use Rattle.thiele_cli.specs.Cases.{Case, NoReading, Generated, TooLong, NoToml, Broken, Answered}
 
 -- the end of a run with this answer, once its text is written
@@ -84,7 +85,7 @@ pub record IsRefusedPremium (product : Product) (given : Answer) : Type 0 where
 abbrev pub AnswersQuestion : Question → Product → Answer → Type 0
 AnswersQuestion question.Limits product given = given ≡ answer.Limits product
 AnswersQuestion question.ValueAtIssue product given = Reports product (IsReport product kind.Value 1) given
-AnswersQuestion (question.Reserves every) product given = Reports product (IsReport product kind.Reserves every) given
+AnswersQuestion (question.Reserves every) product given = Reports product (IsReserveReport product every) given
 AnswersQuestion (question.Occupancy every) product given =
     Reports product (IsReport product kind.Occupancy every) given
 AnswersQuestion (question.Moments every) product given = Reports product (IsReport product kind.Moments every) given

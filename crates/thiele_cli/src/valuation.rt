@@ -5,6 +5,7 @@ ghost use Rattle.thiele_cli.specs.Replies.{AnswersQuestion, IsPrintable};
 
 use crate::answer::Answer;
 use crate::refusal::Refusal;
+use grid_law::month_reserves;
 use kolmogorov_forward::occupancy;
 use moment_equations::moments;
 use payment_plan::Which;
@@ -14,7 +15,7 @@ use reserve_report::{Kind, from_moments, from_premium, from_table, from_value};
 use std::alloc::{AllocError, Global};
 use std::sync::ledger::Ledger;
 use taylor_step::Steps;
-use thiele_backward::{reserves, value};
+use thiele_backward::value;
 
 /// The value at issue in the start state.
 pub fn value_answer<L: Ledger>(
@@ -45,7 +46,7 @@ pub fn reserves_answer<L: Ledger>(
     ensures printable { IfOk result IsPrintable }
 {
     let _months = admitted.product().months();
-    let table = reserves(alloc, &admitted, every, steps)?;
+    let table = month_reserves(alloc, &admitted, every, steps)?;
     let report = from_table(alloc, &admitted, Kind::Reserves, &table)?;
     Ok(Answer::Report(admitted, report))
 }

@@ -51,3 +51,8 @@ returns-clause-text c =
     let made = c.in_ok-rows.ensures ∙ ap (λ about. list_of (length t.cells.items) (row_at about t)) c.what.ensures in
     has_text p t.degree _ (subst (All (IsSound p t.degree)) (sym made) (rows_are_sound p _ t.every t.degree t rows))
     (c.in_ok-tolerances_of.ensures ∙ ap (λ rows. map (λ row. tolerance p (row_of row)) rows) c.deref.ensures.value)
+
+pub returns-clause-rows : goal.returns-clause-rows
+returns-clause-rows c =
+    c.in_ok-rows.ensures ∙ ap (λ about. list_of (length c.args.t.now.cells.items) (row_at about c.args.t.now))
+    c.what.ensures
