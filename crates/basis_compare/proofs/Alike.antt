@@ -13,11 +13,14 @@ pub record AreAlike (a b : Product) : Type 0 where
   pub den : a.den ≡ b.den
   pub count : length a.states ≡ length b.states
 
--- where none of some values is there, neither is the first, nor one of the others
-pub none_given : {A : Type 0} (first : Option A) (more : List (Option A)) → first_given (first ∷ more) ≡ None
-    → (first ≡ None) × (first_given more ≡ None)
-none_given None more none = (refl, none)
-none_given (Some found) more none = absurd (cc)
+-- where none of four values is given, none is there
+pub none_of_four : {A : Type 0} (a b c d : Option A) → first_given (a ∷ b ∷ c ∷ d ∷ []) ≡ None
+    → (a ≡ None) × (b ≡ None) × (c ≡ None) × (d ≡ None)
+none_of_four None None None None none = (refl, refl, refl, refl)
+none_of_four None None None (Some found) none = absurd (cc)
+none_of_four None None (Some found) d none = absurd (cc)
+none_of_four None (Some found) c d none = absurd (cc)
+none_of_four (Some found) b c d none = absurd (cc)
 
 pub equal_numbers : (part a b : ℕ) → differing_numbers part a b ≡ None → a ≡ b
 equal_numbers part a b none =
@@ -34,14 +37,10 @@ equal_numbers part a b none =
 
 pub are_alike : (a b : Product) → first_difference a b ≡ None → AreAlike a b
 are_alike a b none =
-    let terms = none_given (differing_numbers 1 a.months b.months) (differing_numbers 2 a.den b.den
-    ∷ differing_numbers 3 (length a.states) (length b.states) ∷ differing_names 4 a.states b.states ∷ []) none in
-    let denominators = none_given (differing_numbers 2 a.den b.den)
-    (differing_numbers 3 (length a.states) (length b.states) ∷ differing_names 4 a.states b.states ∷ []) terms.1 in
-    let counts = none_given (differing_numbers 3 (length a.states) (length b.states))
-    (differing_names 4 a.states b.states ∷ []) denominators.1 in
+    let same = none_of_four (differing_numbers 1 a.months b.months) (differing_numbers 2 a.den b.den)
+    (differing_numbers 3 (length a.states) (length b.states)) (differing_names 4 a.states b.states) none in
     record {
-      months = equal_numbers 1 a.months b.months terms.0;
-      den = equal_numbers 2 a.den b.den denominators.0;
-      count = equal_numbers 3 (length a.states) (length b.states) counts.0;
+      months = equal_numbers 1 a.months b.months same.0;
+      den = equal_numbers 2 a.den b.den same.1.0;
+      count = equal_numbers 3 (length a.states) (length b.states) same.1.1.0;
     }

@@ -25,8 +25,8 @@ use Rattle.basis_compare.proofs.Listed.{AreListed, reserves_are_listed}
 
 -- ---- rows one by one
 
--- three more of a list that is made by places
-three_more : {A : Type 0} (f : ℕ → A) (k : ℕ) (a b c : A) (old one two new : List A) → old ≡ list_of k f
+-- three more changes of a list that is made by places
+three_more : (f : ℕ → Change) (k : ℕ) (a b c : Change) (old one two new : List Change) → old ≡ list_of k f
     → a ≡ f k → b ≡ f (k + 1) → c ≡ f (k + 2) → one ≡ old ++ a ∷ [] → two ≡ one ++ b ∷ [] → new ≡ two ++ c ∷ []
     → new ≡ list_of (k + 3) f
 three_more f k a b c old one two new so_far first second third x y z =
@@ -105,26 +105,22 @@ to_is_listed a b Interest degree states every count old between new place all in
 to_is_listed a b Rest degree states every count old between new place all inside = all.in_new.each place inside
 to_is_listed a b Total degree states every count old between new place all inside = all.in_new.each place inside
 
--- a row is one of a place
-place_inside : (k count : ℕ) → k < 3 * count → k / 3 < count
-place_inside k count inside = omega (arith, inside)
-
 row_is_right : (a b : Product) (degree states every count : ℕ) (old between new : List PrintedReserve) (k : ℕ)
     → AreAllListed a b degree states every count old between new → k < 3 * count
     → IsChange a b degree (change_at old between new k)
 row_is_right a b degree states every count old between new k all inside =
     change_is_right a b (part_of (k % 3)) degree states every (k / 3) _ _
     (from_is_listed a b (part_of (k % 3)) degree states every count old between new (k / 3) all
-    (place_inside k count inside))
+    (omega (arith, inside)))
     (to_is_listed a b (part_of (k % 3)) degree states every count old between new (k / 3) all
-    (place_inside k count inside))
+    (omega (arith, inside)))
 
 row_is_asked : (a b : Product) (degree states every count : ℕ) (old between new : List PrintedReserve) (k : ℕ)
     → AreAllListed a b degree states every count old between new → k < 3 * count
     → subject_of (change_at old between new k) ≡ subject_at states every k
 row_is_asked a b degree states every count old between new k all inside =
     let at = from_is_listed a b (part_of (k % 3)) degree states every count old between new (k / 3) all
-    (place_inside k count inside) in
+    (omega (arith, inside)) in
     ap (λ month. record {
       month = month;
       state = (reserve_at (before (part_of (k % 3)) old between new) (k / 3)).state;
@@ -157,7 +153,7 @@ rows_have_states a b degree every count old between new rows some all is =
     (All-list_of (λ row. row.state < length a.states) (3 * count) (change_at old between new)
     (λ k inside. subst (λ state. state < length a.states)
     (sym (from_is_listed a b (part_of (k % 3)) degree (length a.states) every count old between new (k / 3) all
-    (place_inside k count inside)).state) (mod-lt (k / 3) some)))
+    (omega (arith, inside))).state) (mod-lt (k / 3) some)))
 
 -- ---- three tables
 

@@ -17,9 +17,6 @@ use Rattle.basis_compare.proofs.RightChanges.{IsPrintedAt}
 
 -- ---- places of a table
 
-place_again : (place states : ℕ) → place / states * states + place % states ≡ place
-place_again place states = omega (arith, div-add-mod place states)
-
 some_states : (dates states place : ℕ) → place < dates * states → 0 < states
 some_states dates zero place inside = absurd (omega arith)
 some_states dates (suc states) place inside = omega arith
@@ -40,27 +37,25 @@ is_place product every t place table inside =
     record { some = some; date = omega (arith, before); state = mod-lt place some }
 
 -- a date is at most the term, and there are no more dates than months
-date_in_term : (date every months : ℕ) → date ≤ months / every → date * every ≤ months
-date_in_term date every months last =
-    let all : date * every ≤ months / every * every = mul-le-mul last (omega arith) in
-    omega (arith, div-add-mod months every, all)
-
-few_dates : (date every months : ℕ) → 0 < every → date ≤ months / every → date ≤ months
-few_dates date every months some last =
-    let least : date * 1 ≤ date * every = mul-le-mul {n₁ = date} {n₂ = date} (omega arith) some in
-    omega (arith, date_in_term date every months last, least)
-
 pub month_in_term : (product : Product) (every : ℕ) (t : Table) (place : ℕ) → IsPlace product every t place
     → place / t.states * every ≤ product.months
-month_in_term product every t place at = date_in_term (place / t.states) every product.months at.date
+month_in_term product every t place at =
+    let all : place / t.states * every ≤ product.months / every * every = mul-le-mul at.date (omega arith) in
+    omega (arith, div-add-mod product.months every, all)
 
 pub date_in_months : (product : Product) (every : ℕ) (t : Table) (place : ℕ) → 0 < every
     → IsPlace product every t place → place / t.states ≤ product.months
-date_in_months product every t place some at = few_dates (place / t.states) every product.months some at.date
+date_in_months product every t place some at =
+    let date = place / t.states in
+    let least : date * 1 ≤ date * every = mul-le-mul {n₁ = date} {n₂ = date} (omega arith) some in
+    omega (arith, month_in_term product every t place at, least)
 
 -- the ends at a place are those of its date and state
 ends_at_place : (t : Table) (place : ℕ) → ends_at t (place / t.states) (place % t.states) ≡ ends_in t place
-ends_at_place t place = ap (λ at. ends_in t at) (place_again place t.states)
+ends_at_place t place = ap (λ at. ends_in t at) again
+  where
+    again : place / t.states * t.states + place % t.states ≡ place
+    again = omega (arith, div-add-mod place t.states)
 
 -- and hold its reserve
 pub ends_are_right : (product : Product) (every : ℕ) (t : Table) (place : ℕ) → AreReserves product every t

@@ -40,8 +40,8 @@ product_with product interest =
     ap with_interest (product_again product)
 
 -- parts one by one
-abbrev each_part : List ℕ → StateGraph → ℕ → ℕ → ℕ → PiecewiseCurve → List PiecewiseCurve → Payments → Parts
-each_part name graph start months den interest rates payments = record {
+abbrev each_part : StateGraph → List ℕ → ℕ → ℕ → ℕ → PiecewiseCurve → List PiecewiseCurve → Payments → Parts
+each_part graph name start months den interest rates payments = record {
   name = name;
   graph = graph;
   start = start;
@@ -56,13 +56,13 @@ pub parts_are : (p : Product) (at : PiecewiseCurve) (name : List ℕ) (graph : S
     (interest : PiecewiseCurve) (rates : List PiecewiseCurve) (payments : Payments) → name ≡ p.name
     → graph ≡ graph_of p → start ≡ p.start → months ≡ p.months → den ≡ p.den → interest ≡ at
     → rates ≡ map (λ t. curve_of p t.rate) p.transitions → payments ≡ payments_of p
-    → each_part name graph start months den interest rates payments ≡ parts_with p at
+    → each_part graph name start months den interest rates payments ≡ parts_with p at
 parts_are p at name graph start months den interest rates payments a b c d e f g h =
-    ap (λ x. each_part x graph start months den interest rates payments) a
-    ∙ ap (λ x. each_part p.name x start months den interest rates payments) b
-    ∙ ap (λ x. each_part p.name (graph_of p) x months den interest rates payments) c
-    ∙ ap (λ x. each_part p.name (graph_of p) p.start x den interest rates payments) d
-    ∙ ap (λ x. each_part p.name (graph_of p) p.start p.months x interest rates payments) e
-    ∙ ap (λ x. each_part p.name (graph_of p) p.start p.months p.den x rates payments) f
-    ∙ ap (λ x. each_part p.name (graph_of p) p.start p.months p.den at x payments) g
-    ∙ ap (λ x. each_part p.name (graph_of p) p.start p.months p.den at (map (λ t. curve_of p t.rate) p.transitions) x) h
+    ap (λ x. each_part graph x start months den interest rates payments) a
+    ∙ ap (λ x. each_part x p.name start months den interest rates payments) b
+    ∙ ap (λ x. each_part (graph_of p) p.name x months den interest rates payments) c
+    ∙ ap (λ x. each_part (graph_of p) p.name p.start x den interest rates payments) d
+    ∙ ap (λ x. each_part (graph_of p) p.name p.start p.months x interest rates payments) e
+    ∙ ap (λ x. each_part (graph_of p) p.name p.start p.months p.den x rates payments) f
+    ∙ ap (λ x. each_part (graph_of p) p.name p.start p.months p.den at x payments) g
+    ∙ ap (λ x. each_part (graph_of p) p.name p.start p.months p.den at (map (λ t. curve_of p t.rate) p.transitions) x) h

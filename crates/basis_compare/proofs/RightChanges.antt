@@ -76,21 +76,18 @@ open_is_small lo hi tolerance x under over narrow between =
     low lo hi tolerance over narrow = omega (arith, ints)
 
 -- what the test of an order says
-is_below : (a b : ℤ) → int_lt a b ≡ true → a <ℤ b
-is_below a b test = grind (arith, ints)
-
-is_at_least : (a b : ℤ) → int_lt a b ≡ false → b ≤ℤ a
-is_at_least a b test = grind (arith, ints)
+order_by_test : (a b : ℤ) → (int_lt a b ≡ true → a <ℤ b) × (int_lt a b ≡ false → b ≤ℤ a)
+order_by_test a b = ((λ test. grind (arith, ints)), (λ test. grind (arith, ints)))
 
 says_by_tests : (lo hi : ℤ) (tolerance : ℕ) (x : Fraction) (t u : Bool) → int_lt (pos 0) lo ≡ t
     → int_lt hi (pos 0) ≡ u → hi ≤ℤ (lo +ℤ pos tolerance) → LiesBetween (record { lo = lo; hi = hi }) x
     → Says (cond t Above (cond u Below Open)) tolerance x
 says_by_tests lo hi tolerance x true u above other narrow between =
-    above_is_above lo x (is_below (pos 0) lo above) between.at_least
+    above_is_above lo x ((order_by_test (pos 0) lo).0 above) between.at_least
 says_by_tests lo hi tolerance x false true other below narrow between =
-    below_is_below hi x (is_below hi (pos 0) below) between.at_most
+    below_is_below hi x ((order_by_test hi (pos 0)).0 below) between.at_most
 says_by_tests lo hi tolerance x false false under over narrow between =
-    open_is_small lo hi tolerance x (is_at_least (pos 0) lo under) (is_at_least hi (pos 0) over) narrow between
+    open_is_small lo hi tolerance x ((order_by_test (pos 0) lo).1 under) ((order_by_test hi (pos 0)).1 over) narrow between
 
 pub turn_says : (lo hi : ℤ) (tolerance : ℕ) (x : Fraction) → hi ≤ℤ (lo +ℤ pos tolerance)
     → LiesBetween (record { lo = lo; hi = hi }) x → Says (turn_of lo hi) tolerance x

@@ -6,11 +6,6 @@ use Rattle.model_specs.specs.Product.{Product}
 use Rattle.basis_compare.specs.declared.change_rows.Change.{Change}
 use Rattle.basis_compare.specs.ChangesText.{change_line, change_lines}
 
--- four parts, one behind the other
-pub four_parts : (start a b c d after_a after_b after_c after_d : List ℕ) → after_a ≡ start ++ a
-    → after_b ≡ after_a ++ b → after_c ≡ after_b ++ c → after_d ≡ after_c ++ d → after_d ≡ start ++ (a ++ b ++ c ++ d)
-four_parts start a b c d after_a after_b after_c after_d ea eb ec ed = rw (ed, ec, eb, ea) (simp append_assoc)
-
 lines_append : (a : Product) (rows : List Change) (row : Change)
     → change_lines a (rows ++ row ∷ []) ≡ change_lines a rows ++ change_line a row
 lines_append a [] row = append-nil (change_line a row)

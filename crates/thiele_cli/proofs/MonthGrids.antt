@@ -26,9 +26,6 @@ date_is_asked : (place dates states : ℕ) → 0 < states → place < (dates + 1
 date_is_asked place dates states some inside =
     let within : place / states < dates + 1 = (div-lt_iff_lt-mul some).1 inside in omega (arith, within)
 
-same_place : (place states : ℕ) → place / states * states + place % states ≡ place
-same_place place states = omega (arith, div-add-mod place states)
-
 some_states : (place dates states : ℕ) → place < (dates + 1) * states → 0 < states
 some_states place dates zero inside = absurd (omega (arith, inside))
 some_states place dates (suc states) inside = omega arith
@@ -40,28 +37,35 @@ row_holds : (product : Product) (every : ℕ) (t : Table) → AreReserves produc
 row_holds product every t reserves months place inside n from =
     let states = t.states in
     let reserve_at : ℕ → ℕ → _ = λ dates state.
-        month_grid_reserve product (payment_plan product) n (place / states * dates) state in
+    month_grid_reserve product (payment_plan product) n (place / states * dates) state in
     let count : place < (product.months / every + 1) * states =
-        subst (λ s. place < (product.months / every + 1) * s) (sym reserves.states_is)
-        (subst (λ cells. place < cells) reserves.count inside) in
+    subst (λ s. place < (product.months / every + 1) * s) (sym reserves.states_is)
+    (subst (λ cells. place < cells) reserves.count inside) in
     let some : 0 < states = some_states place (product.months / every) states count in
     let in_states : place % states < length product.states =
-        subst (λ s. place % states < s) reserves.states_is (mod-lt place some) in
+    subst (λ s. place % states < s) reserves.states_is (mod-lt place some) in
     let at_ends = months (place / states) (place % states) n
-        (date_is_asked place (product.months / every) states some count) in_states from in
+    (date_is_asked place (product.months / every) states some count) in_states from in
     let none : Printed = record { lo = pos 0; hi = pos 0 } in
     let at_place = subst (λ i. LiesBetween (slice_index_or t.cells.items i none)
-        (reserve_at every (place % states))) (same_place place states) at_ends in
+    (reserve_at every (place % states))) (same_place place states) at_ends in
     subst (λ dates. LiesBetween (slice_index_or t.cells.items place none)
     (reserve_at dates (place % states))) (sym reserves.every_is) at_place
+  where
+    same_place : (place states : ℕ) → place / states * states + place % states ≡ place
+    same_place place states = omega (arith, div-add-mod place states)
 
 -- the report of such a table answers what is asked of reserves
 pub reserves_are_reported : (product : Product) (report : Report) (t : Table) (every : ℕ)
     → AreReserves product every t → HoldMonthGrid product every t → IsReport product kind.Reserves t.every report
     → TellsTable kind.Reserves t report → AnswersQuestion (Reserves every) product (answer.Report product report)
-reserves_are_reported product report t every reserves months right tells = (report, refl, record {
-  is_report = subst (λ dates. IsReport product kind.Reserves dates report) reserves.every_is right;
-  by_months = subst (All (HoldsByMonths product)) (sym tells)
-      (All-list_of (HoldsByMonths product) (length t.cells.items) (row_at what.Reserve t)
-      (λ place inside. row_holds product every t reserves months place inside));
-})
+reserves_are_reported product report t every reserves months right tells = (
+  report,
+  refl,
+  record {
+    is_report = subst (λ dates. IsReport product kind.Reserves dates report) reserves.every_is right;
+    by_months = subst (All (HoldsByMonths product)) (sym tells)
+        (All-list_of (HoldsByMonths product) (length t.cells.items) (row_at what.Reserve t)
+        (λ place inside. row_holds product every t reserves months place inside));
+  },
+)
