@@ -41,6 +41,6 @@ are_alike a b none =
     (differing_numbers 3 (length a.states) (length b.states)) (differing_names 4 a.states b.states) none in
     record {
       months = equal_numbers 1 a.months b.months same.0;
-      den = equal_numbers 2 a.den b.den same.1.0;
-      count = equal_numbers 3 (length a.states) (length b.states) same.1.1.0;
+      den = equal_numbers 2 a.den b.den same.1;
+      count = equal_numbers 3 (length a.states) (length b.states) same.2;
     }

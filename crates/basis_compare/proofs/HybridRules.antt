@@ -62,7 +62,7 @@ last_is_broken a b old new none found is =
     let of_new = none_of_four (interest_break b) (intensity_break b) (exit_break b) (broken_at_last b) new.valuation in
     found_at_last (obeys_rule_18 (hybrid_of a b)) found
     (sym (last_alone (interest_break (hybrid_of a b)) (intensity_break (hybrid_of a b)) (exit_break (hybrid_of a b))
-    (broken_at_last (hybrid_of a b)) (interest_as_new a b (are_alike a b none) ∙ of_new.0) of_old.1.0 of_old.1.1.0) ∙ is)
+    (broken_at_last (hybrid_of a b)) (interest_as_new a b (are_alike a b none) ∙ of_new.0) of_old.1 of_old.2) ∙ is)
 
 pub hybrid_breaks_the_last : (a b : Product) → IsAdmissible a → IsAdmissible b → first_difference a b ≡ None
     → BreaksAtMostTheLastRule (hybrid_of a b)
