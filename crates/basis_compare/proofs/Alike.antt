@@ -1,5 +1,5 @@
 -- What two bases of which no part differs have in common.
-use Rattle.std.proofs.Common.{◌≡◌, ℕ, cond, [], ◌∷◌, length, refl, ap, sym, ◌∙◌, inl, inr}
+use Rattle.std.proofs.Common.{◌≡◌, ℕ, cond, List, [], ◌∷◌, length, refl, ap, sym, ◌∙◌, inl, inr}
 use Rattle.std.specs.Prelude.{Option, Some, None}
 use Rattle.std.proofs.lemmas.Bool.{cases_eq, ne_eqb}
 use Rattle.model_specs.specs.Product.{Product}
@@ -13,14 +13,11 @@ pub record AreAlike (a b : Product) : Type 0 where
   pub den : a.den ≡ b.den
   pub count : length a.states ≡ length b.states
 
--- where none of four values is given, none is there
-pub none_of_four : {A : Type 0} (a b c d : Option A) → first_given (a ∷ b ∷ c ∷ d ∷ []) ≡ None
-    → (a ≡ None) × (b ≡ None) × (c ≡ None) × (d ≡ None)
-none_of_four None None None None none = (refl, refl, refl, refl)
-none_of_four None None None (Some found) none = absurd (cc)
-none_of_four None None (Some found) d none = absurd (cc)
-none_of_four None (Some found) c d none = absurd (cc)
-none_of_four (Some found) b c d none = absurd (cc)
+-- where none of some values is there, neither is the first, nor one of the others
+pub none_given : {A : Type 0} (first : Option A) (more : List (Option A)) → first_given (first ∷ more) ≡ None
+    → (first_given more ≡ None) × (first ≡ None)
+none_given None more none = (none, refl)
+none_given (Some found) more none = absurd (cc)
 
 pub equal_numbers : (part a b : ℕ) → differing_numbers part a b ≡ None → a ≡ b
 equal_numbers part a b none =
@@ -37,10 +34,14 @@ equal_numbers part a b none =
 
 pub are_alike : (a b : Product) → first_difference a b ≡ None → AreAlike a b
 are_alike a b none =
-    let same = none_of_four (differing_numbers 1 a.months b.months) (differing_numbers 2 a.den b.den)
-    (differing_numbers 3 (length a.states) (length b.states)) (differing_names 4 a.states b.states) none in
+    let terms = none_given (differing_numbers 1 a.months b.months) (differing_numbers 2 a.den b.den
+    ∷ differing_numbers 3 (length a.states) (length b.states) ∷ differing_names 4 a.states b.states ∷ []) none in
+    let denominators = none_given (differing_numbers 2 a.den b.den)
+    (differing_numbers 3 (length a.states) (length b.states) ∷ differing_names 4 a.states b.states ∷ []) terms.0 in
+    let counts = none_given (differing_numbers 3 (length a.states) (length b.states))
+    (differing_names 4 a.states b.states ∷ []) denominators.0 in
     record {
-      months = equal_numbers 1 a.months b.months same.0;
-      den = equal_numbers 2 a.den b.den same.1;
-      count = equal_numbers 3 (length a.states) (length b.states) same.2;
+      months = equal_numbers 1 a.months b.months terms.1;
+      den = equal_numbers 2 a.den b.den denominators.1;
+      count = equal_numbers 3 (length a.states) (length b.states) counts.1;
     }

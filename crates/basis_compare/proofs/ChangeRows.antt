@@ -25,31 +25,6 @@ use Rattle.basis_compare.proofs.Listed.{AreListed, reserves_are_listed}
 
 -- ---- rows one by one
 
--- three more changes of a list that is made by places
-three_more : (f : ℕ → Change) (k : ℕ) (a b c : Change) (old one two new : List Change) → old ≡ list_of k f
-    → a ≡ f k → b ≡ f (k + 1) → c ≡ f (k + 2) → one ≡ old ++ a ∷ [] → two ≡ one ++ b ∷ [] → new ≡ two ++ c ∷ []
-    → new ≡ list_of (k + 3) f
-three_more f k a b c old one two new so_far first second third x y z =
-    let after_one : one ≡ list_of (k + 1) f =
-    x ∙ ap (λ found. found ++ a ∷ []) so_far ∙ ap (λ found. list_of k f ++ found ∷ []) first ∙ sym (list_of_more k f) in
-    let after_two : two ≡ list_of (k + 1 + 1) f =
-    y ∙ ap (λ found. found ++ b ∷ []) after_one ∙ ap (λ found. list_of (k + 1) f ++ found ∷ []) second
-    ∙ sym (list_of_more (k + 1) f) in
-    let after_three : new ≡ list_of (k + 1 + 1 + 1) f =
-    z ∙ ap (λ found. found ++ c ∷ []) (after_two ∙ ap (λ n. list_of n f) two_is)
-    ∙ ap (λ found. list_of (k + 2) f ++ found ∷ []) third ∙ sym (list_of_more (k + 2) f) ∙ ap (λ n. list_of n f)
-    three_is in
-    after_three ∙ ap (λ n. list_of n f) three_again
-  where
-    two_is : k + 1 + 1 ≡ k + 2
-    two_is = omega arith
-
-    three_is : k + 2 + 1 ≡ k + 1 + 1 + 1
-    three_is = omega arith
-
-    three_again : k + 1 + 1 + 1 ≡ k + 3
-    three_again = omega arith
-
 -- the row at three times a place, and at the next two
 row_is : (a h b : List PrintedReserve) (place k : ℕ) → k < 3
     → change_in (part_of k) a h b place ≡ change_at a h b (3 * place + k)
@@ -69,15 +44,28 @@ pub changes_more : (a h b : List PrintedReserve) (place : ℕ) (interest rest to
     → total ≡ change_in Total a h b place → one ≡ old ++ interest ∷ [] → two ≡ one ++ rest ∷ []
     → new ≡ two ++ total ∷ [] → new ≡ list_of (3 * (place + 1)) (change_at a h b)
 changes_more a h b place interest rest total old one two new so_far first second third x y z =
-    three_more (change_at a h b) (3 * place) interest rest total old one two new so_far
-    (first ∙ row_is a h b place 0 (omega arith) ∙ ap (change_at a h b) plain)
-    (second ∙ row_is a h b place 1 (omega arith)) (third ∙ row_is a h b place 2 (omega arith)) x y z
-    ∙ ap (λ n. list_of n (change_at a h b)) more
+    let after_one : one ≡ list_of (3 * place + 1) (change_at a h b) =
+    one_more (change_at a h b) (3 * place) interest old one so_far
+    (first ∙ row_is a h b place 0 (omega arith) ∙ ap (change_at a h b) plain) x in
+    let after_two : two ≡ list_of (3 * place + 1 + 1) (change_at a h b) =
+    one_more (change_at a h b) (3 * place + 1) rest one two after_one (second ∙ row_is a h b place 1 (omega arith)) y in
+    let after_three : new ≡ list_of (3 * place + 1 + 1 + 1) (change_at a h b) =
+    one_more (change_at a h b) (3 * place + 1 + 1) total two new after_two
+    (third ∙ row_is a h b place 2 (omega arith) ∙ ap (change_at a h b) next) z in
+    after_three ∙ ap (λ n. list_of n (change_at a h b)) more
   where
+    one_more : (f : ℕ → Change) (k : ℕ) (row : Change) (old new : List Change) → old ≡ list_of k f → row ≡ f k
+        → new ≡ old ++ row ∷ [] → new ≡ list_of (k + 1) f
+    one_more f k row old new so_far is pushed =
+        pushed ∙ ap (λ rows. rows ++ row ∷ []) so_far ∙ ap (λ r. list_of k f ++ r ∷ []) is ∙ sym (list_of_more k f)
+
     plain : 3 * place + 0 ≡ 3 * place
     plain = omega arith
 
-    more : 3 * place + 3 ≡ 3 * (place + 1)
+    next : 3 * place + 2 ≡ 3 * place + 1 + 1
+    next = omega arith
+
+    more : 3 * place + 1 + 1 + 1 ≡ 3 * (place + 1)
     more = omega arith
 
 -- ---- all rows

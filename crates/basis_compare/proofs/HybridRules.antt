@@ -7,7 +7,7 @@ use Rattle.model_specs.specs.ValuationRules.{RuleBreak, IsAdmissible, first_give
 use Rattle.model_specs.specs.ValuationRules.{broken_at_last, obeys_rule_15, obeys_rule_16, obeys_rule_17}
 use Rattle.model_specs.specs.ValuationRules.{obeys_rule_18}
 use Rattle.basis_compare.specs.Bases.{hybrid_of, first_difference, BreaksAtMostTheLastRule}
-use Rattle.basis_compare.proofs.Alike.{AreAlike, none_of_four, are_alike}
+use Rattle.basis_compare.proofs.Alike.{AreAlike, none_given, are_alike}
 
 -- where each of rules 15 to 17 is broken
 abbrev interest_break : Product → Option RuleBreak
@@ -58,11 +58,15 @@ found_at_last false found is = cc
 last_is_broken : (a b : Product) → IsAdmissible a → IsAdmissible b → first_difference a b ≡ None → (found : RuleBreak)
     → first_broken (hybrid_of a b) ≡ Some found → found ≡ at_last
 last_is_broken a b old new none found is =
-    let of_old = none_of_four (interest_break a) (intensity_break a) (exit_break a) (broken_at_last a) old.valuation in
-    let of_new = none_of_four (interest_break b) (intensity_break b) (exit_break b) (broken_at_last b) new.valuation in
+    let of_old = none_given (interest_break a) (intensity_break a ∷ exit_break a ∷ broken_at_last a ∷ [])
+    old.valuation in
+    let of_rates = none_given (intensity_break a) (exit_break a ∷ broken_at_last a ∷ []) of_old.0 in
+    let of_exits = none_given (exit_break a) (broken_at_last a ∷ []) of_rates.0 in
+    let of_new = none_given (interest_break b) (intensity_break b ∷ exit_break b ∷ broken_at_last b ∷ [])
+    new.valuation in
     found_at_last (obeys_rule_18 (hybrid_of a b)) found
     (sym (last_alone (interest_break (hybrid_of a b)) (intensity_break (hybrid_of a b)) (exit_break (hybrid_of a b))
-    (broken_at_last (hybrid_of a b)) (interest_as_new a b (are_alike a b none) ∙ of_new.0) of_old.1 of_old.2) ∙ is)
+    (broken_at_last (hybrid_of a b)) (interest_as_new a b (are_alike a b none) ∙ of_new.1) of_rates.1 of_exits.1) ∙ is)
 
 pub hybrid_breaks_the_last : (a b : Product) → IsAdmissible a → IsAdmissible b → first_difference a b ≡ None
     → BreaksAtMostTheLastRule (hybrid_of a b)

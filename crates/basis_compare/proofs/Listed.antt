@@ -36,7 +36,7 @@ is_place product every t place table inside =
     let before : place / t.states < product.months / every + 1 = (div-lt_iff_lt-mul some).1 counted in
     record { some = some; date = omega (arith, before); state = mod-lt place some }
 
--- a date is at most the term, and there are no more dates than months
+-- its date is at most the term, and there are no more dates than months
 pub month_in_term : (product : Product) (every : ℕ) (t : Table) (place : ℕ) → IsPlace product every t place
     → place / t.states * every ≤ product.months
 month_in_term product every t place at =
@@ -46,16 +46,15 @@ month_in_term product every t place at =
 pub date_in_months : (product : Product) (every : ℕ) (t : Table) (place : ℕ) → 0 < every
     → IsPlace product every t place → place / t.states ≤ product.months
 date_in_months product every t place some at =
-    let date = place / t.states in
-    let least : date * 1 ≤ date * every = mul-le-mul {n₁ = date} {n₂ = date} (omega arith) some in
+    let least : place / t.states * 1 ≤ place / t.states * every =
+    mul-le-mul {n₁ = place / t.states} {n₂ = place / t.states} (omega arith) some in
     omega (arith, month_in_term product every t place at, least)
 
 -- the ends at a place are those of its date and state
 ends_at_place : (t : Table) (place : ℕ) → ends_at t (place / t.states) (place % t.states) ≡ ends_in t place
-ends_at_place t place = ap (λ at. ends_in t at) again
-  where
-    again : place / t.states * t.states + place % t.states ≡ place
-    again = omega (arith, div-add-mod place t.states)
+ends_at_place t place =
+    let again : place / t.states * t.states + place % t.states ≡ place = omega (arith, div-add-mod place t.states) in
+    ap (λ at. ends_in t at) again
 
 -- and hold its reserve
 pub ends_are_right : (product : Product) (every : ℕ) (t : Table) (place : ℕ) → AreReserves product every t

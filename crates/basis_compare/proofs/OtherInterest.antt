@@ -1,11 +1,11 @@
 -- A product with other interest, by its parts.
-use Rattle.std.proofs.Common.{◌≡◌, ℕ, List, map, ap, ◌∙◌}
+use Rattle.std.proofs.Common.{◌≡◌, ℕ, ℤ, pos, List, map, ap, ◌∙◌}
 use Rattle.model_specs.specs.Product.{Product}
 use Rattle.model_specs.specs.RecordRules.{IsWellFormed}
 use Rattle.curve_pieces.specs.PiecewiseCurves.{PiecewiseCurve}
 use Rattle.state_graph.specs.StateGraphs.{StateGraph}
 use Rattle.payment_plan.specs.Payments.{Payments}
-use Rattle.product_model.specs.Parts.{Parts, FitTogether, product_of_parts}
+use Rattle.product_model.specs.Parts.{Parts, FitTogether, parts_of, product_of_parts}
 use Rattle.product_model.specs.Views.{graph_of, curve_of, payments_of}
 use Rattle.product_reader.proofs.Wholes.{parts_of_product, product_again, parts_fit}
 
@@ -40,29 +40,18 @@ product_with product interest =
     ap with_interest (product_again product)
 
 -- parts one by one
-abbrev each_part : StateGraph → List ℕ → ℕ → ℕ → ℕ → PiecewiseCurve → List PiecewiseCurve → Payments → Parts
-each_part graph name start months den interest rates payments = record {
-  name = name;
-  graph = graph;
-  start = start;
-  months = months;
-  den = den;
-  interest = interest;
-  rates = rates;
-  payments = payments;
-}
-
-pub parts_are : (p : Product) (at : PiecewiseCurve) (name : List ℕ) (graph : StateGraph) (start months den : ℕ)
+pub parts_are : (p : Product) (at : PiecewiseCurve) (name : List ℕ) (graph : StateGraph) (start months : ℕ) (den : ℤ)
     (interest : PiecewiseCurve) (rates : List PiecewiseCurve) (payments : Payments) → name ≡ p.name
-    → graph ≡ graph_of p → start ≡ p.start → months ≡ p.months → den ≡ p.den → interest ≡ at
+    → graph ≡ graph_of p → start ≡ p.start → months ≡ p.months → den ≡ pos p.den → interest ≡ at
     → rates ≡ map (λ t. curve_of p t.rate) p.transitions → payments ≡ payments_of p
-    → each_part graph name start months den interest rates payments ≡ parts_with p at
+    → parts_of name graph start months den interest rates payments ≡ parts_with p at
 parts_are p at name graph start months den interest rates payments a b c d e f g h =
-    ap (λ x. each_part graph x start months den interest rates payments) a
-    ∙ ap (λ x. each_part x p.name start months den interest rates payments) b
-    ∙ ap (λ x. each_part (graph_of p) p.name x months den interest rates payments) c
-    ∙ ap (λ x. each_part (graph_of p) p.name p.start x den interest rates payments) d
-    ∙ ap (λ x. each_part (graph_of p) p.name p.start p.months x interest rates payments) e
-    ∙ ap (λ x. each_part (graph_of p) p.name p.start p.months p.den x rates payments) f
-    ∙ ap (λ x. each_part (graph_of p) p.name p.start p.months p.den at x payments) g
-    ∙ ap (λ x. each_part (graph_of p) p.name p.start p.months p.den at (map (λ t. curve_of p t.rate) p.transitions) x) h
+    ap (λ x. parts_of x graph start months den interest rates payments) a
+    ∙ ap (λ x. parts_of p.name x start months den interest rates payments) b
+    ∙ ap (λ x. parts_of p.name (graph_of p) x months den interest rates payments) c
+    ∙ ap (λ x. parts_of p.name (graph_of p) p.start x den interest rates payments) d
+    ∙ ap (λ x. parts_of p.name (graph_of p) p.start p.months x interest rates payments) e
+    ∙ ap (λ x. parts_of p.name (graph_of p) p.start p.months (pos p.den) x rates payments) f
+    ∙ ap (λ x. parts_of p.name (graph_of p) p.start p.months (pos p.den) at x payments) g
+    ∙ ap (λ x. parts_of p.name (graph_of p) p.start p.months (pos p.den) at
+    (map (λ t. curve_of p t.rate) p.transitions) x) h

@@ -44,15 +44,17 @@ widths from_lo from_hi to_lo to_hi from to h k = omega (arith, ints)
 
 -- ---- turns
 
-pub above_is_above : (lo : ℤ) (x : Fraction) → pos 0 <ℤ lo → whole lo ≤ℚ whole (pos (10 ^ 6)) *ℚ x
+pub above_is_above : (lo : ℤ) (x : Fraction) → int_lt (pos 0) lo ≡ true → whole lo ≤ℚ whole (pos (10 ^ 6)) *ℚ x
     → whole (pos 0) <ℚ x
-above_is_above lo x above at_least =
+above_is_above lo x test at_least =
+    let above : pos 0 <ℤ lo = grind (arith, ints) in
     lt_of_not_le (λ (h : x ≤ℚ whole (pos 0)). not_le_of_lt (whole_lt above)
     (le_trans at_least (linear (x ∷ []) (natural (10 ^ 6) 1 ⊠ h) (hlevel claims) refl)))
 
-pub below_is_below : (hi : ℤ) (x : Fraction) → hi <ℤ pos 0 → whole (pos (10 ^ 6)) *ℚ x ≤ℚ whole hi
+pub below_is_below : (hi : ℤ) (x : Fraction) → int_lt hi (pos 0) ≡ true → whole (pos (10 ^ 6)) *ℚ x ≤ℚ whole hi
     → x <ℚ whole (pos 0)
-below_is_below hi x below at_most =
+below_is_below hi x test at_most =
+    let below : hi <ℤ pos 0 = grind (arith, ints) in
     lt_of_not_le (λ (h : whole (pos 0) ≤ℚ x). not_le_of_lt (whole_lt below)
     (le_trans (linear (x ∷ []) (natural (10 ^ 6) 1 ⊠ h) (hlevel claims) refl) at_most))
 
@@ -76,18 +78,18 @@ open_is_small lo hi tolerance x under over narrow between =
     low lo hi tolerance over narrow = omega (arith, ints)
 
 -- what the test of an order says
-order_by_test : (a b : ℤ) → (int_lt a b ≡ true → a <ℤ b) × (int_lt a b ≡ false → b ≤ℤ a)
-order_by_test a b = ((λ test. grind (arith, ints)), (λ test. grind (arith, ints)))
+is_at_least : (a b : ℤ) → int_lt a b ≡ false → b ≤ℤ a
+is_at_least a b test = grind (arith, ints)
 
 says_by_tests : (lo hi : ℤ) (tolerance : ℕ) (x : Fraction) (t u : Bool) → int_lt (pos 0) lo ≡ t
     → int_lt hi (pos 0) ≡ u → hi ≤ℤ (lo +ℤ pos tolerance) → LiesBetween (record { lo = lo; hi = hi }) x
     → Says (cond t Above (cond u Below Open)) tolerance x
 says_by_tests lo hi tolerance x true u above other narrow between =
-    above_is_above lo x ((order_by_test (pos 0) lo).0 above) between.at_least
+    above_is_above lo x above between.at_least
 says_by_tests lo hi tolerance x false true other below narrow between =
-    below_is_below hi x ((order_by_test hi (pos 0)).0 below) between.at_most
+    below_is_below hi x below between.at_most
 says_by_tests lo hi tolerance x false false under over narrow between =
-    open_is_small lo hi tolerance x ((order_by_test (pos 0) lo).1 under) ((order_by_test hi (pos 0)).1 over) narrow between
+    open_is_small lo hi tolerance x (is_at_least (pos 0) lo under) (is_at_least hi (pos 0) over) narrow between
 
 pub turn_says : (lo hi : ℤ) (tolerance : ℕ) (x : Fraction) → hi ≤ℤ (lo +ℤ pos tolerance)
     → LiesBetween (record { lo = lo; hi = hi }) x → Says (turn_of lo hi) tolerance x

@@ -1,4 +1,6 @@
+ghost use Rattle.std.specs.Prelude.{◌≡◌, IfOk, length};
 ghost use Rattle.std.proofs.Common.{lit≤};
+ghost use Rattle.reserve_report.specs.Reports.{HasText};
 
 use crate::{Kind, Report, report_bytes};
 use curve_pieces::{Curve, Piece};
@@ -154,18 +156,26 @@ fn reserves_are_written_by_date_and_state(rt: HostRuntime) -> Result<(), Fail> {
     Ok(())
 }
 
-#[test]
-fn moments_are_written_in_their_units(rt: HostRuntime) -> Result<(), Fail> {
-    let alloc = rt.alloc();
-    let product = endowment(alloc)?;
-    assert_eq!(rt; product.graph().states(), 2);
-    let report = Report {
+// The report of the moments of a state at issue.
+fn moments_report(alloc: Global, product: &Product) -> Result<Report, AllocError>
+    requires { length product.now.states ≡ 2 }
+    ensures { IfOk result (HasText product.now) }
+{
+    Ok(Report {
         kind: Kind::Moments,
         degree: 9,
         scale: 7,
         tolerance: [2, 3, 4].to_vec(alloc)?,
         rows: MOMENTS.to_vec(alloc)?,
-    };
+    })
+}
+
+#[test]
+fn moments_are_written_in_their_units(rt: HostRuntime) -> Result<(), Fail> {
+    let alloc = rt.alloc();
+    let product = endowment(alloc)?;
+    assert_eq!(rt; product.graph().states(), 2);
+    let report = moments_report(alloc, &product)?;
     let text = report_bytes(alloc, &product, &report, &mut Vec::new(alloc))?;
     let wanted = b"report moments endowment\n\
         degree 9 scale 7\n\
@@ -182,26 +192,21 @@ fn columns_stand_below_the_rows(rt: HostRuntime) -> Result<(), Fail> {
     let alloc = rt.alloc();
     let product = endowment(alloc)?;
     assert_eq!(rt; product.graph().states(), 2);
-    let report = Report {
-        kind: Kind::Value,
-        degree: 24,
-        scale: 10,
-        tolerance: [3, 11_234_567].to_vec(alloc)?,
-        rows: [AT_ISSUE, LATER].to_vec(alloc)?,
-    };
+    let report = moments_report(alloc, &product)?;
     let mut columns: Vec<Box<dyn Column>> = Vec::new(alloc);
     columns.push(Box::new(alloc, WidthColumn::new(alloc))?)?;
     columns.push(Box::new(alloc, SignColumn::new(alloc))?)?;
     columns.push(Box::new(alloc, CsvColumn::new(alloc))?)?;
     let text = report_bytes(alloc, &product, &report, &mut columns)?;
-    let wanted = b"report value endowment\n\
-        degree 24 scale 10\n\
-        0 off value -0.000001 0.000002 0.000003\n\
-        12 on value -1.234567 10.000000 11.234567\n\
-        end 2\n\
-        column 1\n0 1 0.000003\n12 0 11.234567\n\
-        column 2\n0 1 ?\n12 0 ?\n\
-        column 3\n0,1,value,-0.000001,0.000002\n12,0,value,-1.234567,10.000000\n";
+    let wanted = b"report moments endowment\n\
+        degree 9 scale 7\n\
+        0 off first 100.000000 100.000000 0.000002\n\
+        0 off second 9999 10001 3\n\
+        0 off variance -1 2 4\n\
+        end 3\n\
+        column 1\n0 1 0.000000\n0 1 2\n0 1 3\n\
+        column 2\n0 1 +\n0 1 +\n0 1 ?\n\
+        column 3\n0,1,first,100.000000,100.000000\n0,1,second,9999,10001\n0,1,variance,-1,2\n";
     assert_eq!(rt; text.as_slice(), wanted.as_slice());
     Ok(())
 }
@@ -242,13 +247,7 @@ fn a_column_that_fails_keeps_its_lines(rt: HostRuntime) -> Result<(), Fail> {
     let alloc = rt.alloc();
     let product = endowment(alloc)?;
     assert_eq!(rt; product.graph().states(), 2);
-    let report = Report {
-        kind: Kind::Moments,
-        degree: 9,
-        scale: 7,
-        tolerance: [2, 3, 4].to_vec(alloc)?,
-        rows: MOMENTS.to_vec(alloc)?,
-    };
+    let report = moments_report(alloc, &product)?;
     let failing = FailingColumn {
         inner: SignColumn::new(alloc),
         notes: 0,
@@ -257,6 +256,7 @@ fn a_column_that_fails_keeps_its_lines(rt: HostRuntime) -> Result<(), Fail> {
     columns.push(Box::new(alloc, failing)?)?;
     let text = report_bytes(alloc, &product, &report, &mut columns);
     assert!(rt; text.is_err());
+    assert_eq!(rt; columns.len(), 1);
     assert_eq!(rt; columns[0].text(), b"0 1 +\n0 1 +\n".as_slice());
     Ok(())
 }

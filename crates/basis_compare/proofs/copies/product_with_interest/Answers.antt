@@ -2,7 +2,6 @@ use Rattle.std.proofs.Common.{ap, sym, subst, ◌∙◌, rules}
 use Rattle.std.proofs.lemmas.Int.{to_z-of_z}
 use mir.Syntax.{w64}
 use mir.Val.{SFits}
-use Rattle.model_specs.specs.Whole.{natural_part}
 use Rattle.product_model.specs.Parts.{FitTogether, product_of_parts}
 use Rattle.basis_compare.proofs.OtherInterest.{parts_are, parts_with_fit, product_with}
 use Rattle.basis_compare.proofs.copies.product_with_interest.Goals as goal
@@ -10,7 +9,7 @@ use Rattle.basis_compare.proofs.copies.product_with_interest.Goals as goal
 pub new-requires : goal.new-requires
 new-requires c =
     let fits : SFits w64 c.den.result = search rules in
-    let den = ap natural_part (to_z-of_z w64 c.den.result fits ∙ c.den.ensures.value) in
+    let den = to_z-of_z w64 c.den.result fits ∙ c.den.ensures.value in
     subst FitTogether (sym (parts_are c.args.product.now c.args.interest.now _ _ _ _ _ _ _ _ c.in_ok-name.ensures
     (c.in_ok-graph.ensures ∙ c.graph.ensures.graph) c.start.ensures.value c.months.ensures.value den
     c.in_ok-interest.ensures c.in_ok-rates.ensures c.in_ok-plan.ensures))
@@ -19,7 +18,7 @@ new-requires c =
 pub returns : goal.returns
 returns c =
     let fits : SFits w64 c.den.result = search rules in
-    let den = ap natural_part (to_z-of_z w64 c.den.result fits ∙ c.den.ensures.value) in
+    let den = to_z-of_z w64 c.den.result fits ∙ c.den.ensures.value in
     c.new.ensures ∙ ap product_of_parts (parts_are c.args.product.now c.args.interest.now _ _ _ _ _ _ _ _
     c.in_ok-name.ensures (c.in_ok-graph.ensures ∙ c.graph.ensures.graph) c.start.ensures.value c.months.ensures.value
     den c.in_ok-interest.ensures c.in_ok-rates.ensures c.in_ok-plan.ensures)

@@ -75,8 +75,8 @@ returns-in-Ok-text-clause-written g c = inr (
       (c.deref.ensures.value ∙ c.in-Ok-text.ensures) c.deliver-in-Ok-text.ensures.delivers,
 )
 
-pub returns-in-Err-clause-written : goal.returns-in-Err-clause-written
-returns-in-Err-clause-written g c =
+pub returns-clause-written : goal.returns-in-Err-clause-written
+returns-clause-written g c =
     inl (inr c.of-in-Err.ensures.end, c.of-in-Err.ensures.report, Keeps-refl (g.K.Sink.written c.args.sink.now))
 
 pub returns-in_default-clause-generated : goal.returns-in_default-clause-generated
