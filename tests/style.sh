@@ -7,7 +7,7 @@ cd "$(dirname "$0")/.." || exit 2
 exec python3 - <<'PYTHON'
 import collections, pathlib, re
 
-LIMITS = {"lines over 120 columns": 100, "unused imports": 1, "definitions without a line": 0, "statements in two crates": 86}
+LIMITS = {"lines over 120 columns": 68, "unused imports": 1, "definitions without a line": 0, "statements in two crates": 86}
 
 found = {name: [] for name in LIMITS}
 statements = collections.defaultdict(set)
