@@ -75,7 +75,7 @@ returns-in-Ok-text-clause-written g c = inr (
       (c.deref.ensures.value ∙ c.in-Ok-text.ensures) c.deliver-in-Ok-text.ensures.delivers,
 )
 
-pub returns-clause-written : goal.returns-in-Err-clause-written
+pub returns-clause-written : goal.returns-clause-written
 returns-clause-written g c =
     inl (inr c.of-in-Err.ensures.end, c.of-in-Err.ensures.report, Keeps-refl (g.K.Sink.written c.args.sink.now))
 
