@@ -2,4 +2,5 @@ pub mod ClaimLists
 pub mod Digits
 pub mod FoundClaims
 pub mod Nearness
+pub mod Numbers
 pub mod ThreeFields

@@ -1,3 +1,4 @@
+pub mod Audits
 pub mod Claims
 pub mod Decimals
 pub mod Findings

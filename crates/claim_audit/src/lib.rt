@@ -1,6 +1,7 @@
 //! Checks claimed reserves against the exact ones.
 #![tactic(auto)]
 
+mod auditing;
 mod claims;
 mod decimals;
 mod finding;
@@ -8,6 +9,7 @@ mod findings;
 mod reading;
 mod rows;
 
+pub use auditing::{Audited, audit};
 pub use claims::{Claimed, Fault, claim_of, is_header};
 pub use decimals::{millionths, whole};
 pub use finding::{Finding, mark};

@@ -1,3 +1,5 @@
+mod audits;
+
 use crate::{AuditError, Claimed, Finding, findings_of, mark, millionths, read_claims};
 use fixed_interval::{Printed, Table};
 use rule_breaks::RowBreak;
