@@ -21,7 +21,8 @@ pub struct Audited {
     pub claims: Vec<Claim>,
 }
 
-/// Audits the claims of a CSV text about a product: whether each is at most `eps` millionths away from the exact reserve.
+/// Audits the claims of a CSV text about a product: whether each is at most `eps` millionths away from the exact
+/// reserve.
 /// The rows are read before the reserves are taken.
 pub fn audit<L: Ledger>(
     alloc: Global,

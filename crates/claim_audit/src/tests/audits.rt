@@ -1,4 +1,5 @@
-// A lump of 100 after a month in one state without interest: by hand, its reserve is 100 before that month and 0 at its date.
+// A lump of 100 after a month in one state without interest: by hand, its reserve is 100 before that month and 0 at its
+// date.
 ghost use Rattle.std.specs.Prelude.{◌≡◌, ◌<◌, IfOk};
 ghost use Rattle.model_specs.specs.Product.{no_pattern};
 ghost use Rattle.payment_plan.specs.Records.{pattern_rule_of};

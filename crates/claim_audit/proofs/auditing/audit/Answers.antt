@@ -19,7 +19,8 @@ findings_of-requires-clause-numbers g c =
     let read = subst (λ product. AreClaimsIn product.months product.states text claimed)
     c.product-product.ensures.product by_graph in
     subst (All (HasNumber c.in-Ok-reserves.table)) (sym c.deref.ensures.value)
-    (claims_have_numbers _ _ p.months p.states text claimed c.in-Ok-reserves.table c.in-Ok-reserves.ensures.reserves read)
+    (claims_have_numbers _ _ p.months p.states text claimed c.in-Ok-reserves.table
+    c.in-Ok-reserves.ensures.reserves read)
 
 pub returns-clause-ok : goal.returns-clause-ok
 returns-clause-ok g c =
