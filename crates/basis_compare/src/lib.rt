@@ -10,6 +10,8 @@ mod differences;
 mod differing;
 mod hybrid_record;
 mod printed_tables;
+#[cfg(test)]
+mod tests;
 
 pub use change_rows::{Change, Changes, Part, Turn};
 pub use changes_text::changes_bytes;

@@ -1,0 +1,4 @@
+use Rattle.basis_compare.proofs.tests.changes_of.Given as goal
+
+abbrev pub ghosts-counted : goal.ghosts-counted
+ghosts-counted a = record { name = a.blank.name; parts = a.blank.parts }
