@@ -5,7 +5,7 @@ use Rattle.std.specs.Prelude.{All}
 use Rattle.std.proofs.Math.Nat.{mod-lt}
 use Rattle.fixed_interval.specs.declared.tables.Table.{Table}
 use Rattle.fixed_interval.specs.Tables.{IsAnsweredDegree}
-use Rattle.model_specs.specs.Whole.{list_of}
+use Rattle.whole_laws.specs.Whole.{list_of}
 use Rattle.model_specs.specs.Product.{Product}
 use Rattle.cell_bounds.proofs.TableNorms.{list_of-ext}
 use Rattle.product_model.proofs.PlacedLists.{map-list_of, All-list_of}

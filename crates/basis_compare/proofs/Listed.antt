@@ -6,9 +6,9 @@ use Rattle.std.proofs.Math.Nat.{mod-lt, div-add-mod, div-lt_iff_lt-mul, mul-le-m
 use Rattle.fixed_interval.specs.declared.tables.Table.{Table}
 use Rattle.fixed_interval.specs.declared.printed.Printed.{Printed}
 use Rattle.fixed_interval.specs.Tables.{AreEndsFor, ends_at}
-use Rattle.model_specs.specs.Whole.{list_of}
+use Rattle.whole_laws.specs.Whole.{list_of}
 use Rattle.model_specs.specs.Product.{Product}
-use Rattle.model_laws.proofs.ListsByPlace.{at-list_of, length-list_of}
+use Rattle.whole_laws.proofs.ListsByPlace.{at-list_of, length-list_of}
 use Rattle.thiele_backward.specs.Results.{AreReserves}
 use Rattle.basis_compare.specs.declared.differences.PrintedReserve.{PrintedReserve}
 use Rattle.basis_compare.specs.Changes.{reserve_of, reserve_tolerance}

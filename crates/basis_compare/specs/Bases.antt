@@ -1,7 +1,7 @@
 -- Two bases: the hybrid of both, and the first part in which they cannot be compared. This product's own.
 use Rattle.std.specs.Prelude.{◌≡◌, ℕ, Bool, ◌==◌, not, List, [], ◌∷◌, length, slice_index_or, bytes_eq, find}
 use Rattle.std.specs.Prelude.{option_map, Option, Some, None, if◌then◌else◌}
-use Rattle.model_specs.specs.Whole.{places}
+use Rattle.whole_laws.specs.Whole.{places}
 use Rattle.model_specs.specs.Product.{Product}
 use Rattle.model_specs.specs.ValuationRules.{RuleBreak, first_given, first_broken}
 use Rattle.basis_compare.specs.declared.differing.CompareBreak.{CompareBreak}

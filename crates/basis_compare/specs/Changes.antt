@@ -5,7 +5,7 @@ use Rattle.frac_laws.specs.Fraction.{Fraction, whole, size, ◌*ℚ◌, ◌-ℚ�
 use Rattle.frac_laws.specs.Ledger.{tolerance_first}
 use Rattle.fixed_interval.specs.Printing.{LiesBetween}
 use Rattle.fixed_interval.specs.Tables.{IsAnsweredDegree}
-use Rattle.model_specs.specs.Whole.{list_of}
+use Rattle.whole_laws.specs.Whole.{list_of}
 use Rattle.model_specs.specs.Product.{Product}
 use Rattle.model_specs.specs.Payments.{payment_plan}
 use Rattle.model_specs.specs.Ledgers.{radius, scale}

@@ -1,7 +1,7 @@
 //! Differences of printed reserves.
 
 ghost use Rattle.std.specs.Prelude.{◌≡◌, ◌*◌, IfOk, All, length};
-ghost use Rattle.model_specs.specs.Whole.{list_of};
+ghost use Rattle.whole_laws.specs.Whole.{list_of};
 ghost use Rattle.basis_compare.specs.Changes.{turn_of};
 ghost use Rattle.basis_compare.specs.Differences.{IsSmall, change_at, change_between};
 

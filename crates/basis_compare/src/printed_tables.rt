@@ -1,7 +1,7 @@
 //! The printed reserves of a table, each with the tolerance of its date.
 
 ghost use Rattle.std.specs.Prelude.{◌≡◌, ◌<◌, IfOk, All, length};
-ghost use Rattle.model_specs.specs.Whole.{list_of};
+ghost use Rattle.whole_laws.specs.Whole.{list_of};
 ghost use Rattle.thiele_backward.specs.Results.{AreReserves};
 ghost use Rattle.basis_compare.specs.Differences as rows;
 

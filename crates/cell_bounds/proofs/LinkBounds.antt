@@ -12,7 +12,7 @@ use Rattle.frac_laws.proofs.Sizes.{size_add, size_mul, size_of_natural, size-opp
 use Rattle.frac_laws.proofs.Sums.{sum_to_ext, sum_to_mono, sum_to_add, sum_to_scale, sum_to_scale_right}
 use Rattle.frac_laws.proofs.Sums.{sum_to_exchange, size-sum_to}
 use Rattle.cell_laws.specs.Tame.{one_factor_map}
-use Rattle.model_specs.specs.Whole.{list_of}
+use Rattle.whole_laws.specs.Whole.{list_of}
 use Rattle.model_specs.specs.Cells.{CellCurves}
 use Rattle.model_specs.specs.Systems.{matrix_of, intensity_at, interest_at, leaving_at}
 use Rattle.cell_bounds.specs.CellBounds.{rate_bound, interest_bound, mean_at, of_cell, HasSmallCurves, HasSmallMonth}

@@ -22,7 +22,7 @@ use Rattle.cell_laws.proofs.TameSums.{matrix_norms_natural, vector_norms_natural
 use Rattle.model_specs.specs.Cells.{CellCurves}
 use Rattle.model_specs.specs.Systems.{matrix_of, vector_of, norberg_pair, second_moment_system, coupling_entry}
 use Rattle.model_specs.specs.Systems.{second_payment_at}
-use Rattle.model_laws.proofs.ListsByPlace.{at-list_of}
+use Rattle.whole_laws.proofs.ListsByPlace.{at-list_of}
 use Rattle.cell_bounds.specs.CellBounds.{paid_bound, load_bound, twice_paid_bound, of_cell, HasSmallCurves}
 use Rattle.cell_bounds.specs.CellBounds.{HasSmallMonth, HasSmallPayments, HasSmallSums, CountsGrowth}
 use Rattle.cell_bounds.specs.ScaledSystems.{scaled_pair}

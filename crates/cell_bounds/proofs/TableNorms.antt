@@ -18,9 +18,9 @@ use Rattle.frac_laws.proofs.Convolutions.{sum_to_one}
 use Rattle.frac_laws.proofs.Extremes.{greater_le}
 use Rattle.frac_laws.proofs.Vectors.{number_at-add_lists}
 use Rattle.frac_laws.proofs.Norms.{number_at-sizes, greatest_below, size_zero}
-use Rattle.model_specs.specs.Whole.{list_of}
+use Rattle.whole_laws.specs.Whole.{list_of}
 use Rattle.model_specs.specs.Systems.{matrix_of, where_same}
-use Rattle.model_laws.proofs.ListsByPlace.{at-list_of, past-list_of}
+use Rattle.whole_laws.proofs.ListsByPlace.{at-list_of, past-list_of}
 
 -- 1 where two places are one, and else 0
 abbrev pub unit_at : ℕ → ℕ → Fraction

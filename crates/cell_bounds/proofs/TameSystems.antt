@@ -16,11 +16,11 @@ use Rattle.cell_laws.specs.Systems.{System}
 use Rattle.cell_laws.specs.Tame.{weighted, matrix_norm_at, vector_norm_at, total_norm, growth_of}
 use Rattle.cell_laws.specs.Tame.{IsTame, one_factor_norm}
 use Rattle.cell_laws.proofs.TameSums.{matrix_norms_natural}
-use Rattle.model_specs.specs.Whole.{list_of}
+use Rattle.whole_laws.specs.Whole.{list_of}
 use Rattle.model_specs.specs.Cells.{CellCurves}
 use Rattle.model_specs.specs.Systems.{matrix_of, vector_of, intensity_at, leaving_at, backward_entry, where_same}
 use Rattle.model_specs.specs.Systems.{thiele_system, kolmogorov_system}
-use Rattle.model_laws.proofs.ListsByPlace.{at-list_of}
+use Rattle.whole_laws.proofs.ListsByPlace.{at-list_of}
 use Rattle.cell_bounds.specs.CellBounds.{paid_bound, of_cell, HasSmallCurves, HasSmallMonth, HasSmallPayments}
 use Rattle.cell_bounds.specs.CellBounds.{CountsGrowth}
 use Rattle.cell_bounds.specs.ScaledSystems.{scaled_system}

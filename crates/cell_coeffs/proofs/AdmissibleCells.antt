@@ -23,7 +23,7 @@ use Rattle.cell_bounds.specs.ScaledSystems.{scaling}
 use Rattle.product_cells.specs.EachCell.{backward_cell, plan_scaling}
 use Rattle.product_laws.proofs.FittingNumbers.{numbers_fit}
 use Rattle.product_cells.proofs.ScaleRoom.{unit_scale, room}
-use Rattle.product_cells.proofs.PlanSteps.{HasFourEach, payment_plan_four, pattern_plan_four}
+use Rattle.model_laws.proofs.PlanSteps.{HasFourEach, payment_plan_four, pattern_plan_four}
 use Rattle.product_cells.proofs.ProductCurves.{small_curves, small_month}
 use Rattle.product_cells.proofs.ProductPayments.{small_payments, x_natural}
 use Rattle.cell_coeffs.specs.Rows.{cell_at, IsSmallCell}

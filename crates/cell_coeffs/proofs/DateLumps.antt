@@ -9,11 +9,11 @@ use Rattle.std.proofs.Math.IntN.{+ℤ_assoc, +ℤ_idr, +ℤ_idl, zero-*ℤ}
 use Rattle.std.proofs.lemmas.Bool.Decides.{eqb_tells}
 use Rattle.std.proofs.lemmas.List.{length-map}
 use Rattle.std.proofs.Math.ListN.{get_or-map}
-use Rattle.model_specs.specs.Whole.{list_of, places, greatest_natural}
+use Rattle.whole_laws.specs.Whole.{list_of, places, greatest_natural}
 use Rattle.model_specs.specs.Product.{Lump}
 use Rattle.model_specs.specs.Payments.{Plan, lump_at, lumps_at}
 use Rattle.std.proofs.lemmas.List.Elements.{All-nil, All-cons}
-use Rattle.ledger_laws.proofs.Extremes.{greatest_natural_least, length-list_of}
+use Rattle.whole_laws.proofs.Extremes.{greatest_natural_least, length-list_of}
 use Rattle.cell_coeffs.specs.Lumps.{lump_units, units_to}
 
 -- the units of lumps, one after another

@@ -13,8 +13,8 @@ use Rattle.frac_laws.specs.Lists.{number_at}
 use Rattle.frac_laws.specs.Sums.{sum_to}
 use Rattle.frac_laws.proofs.FractionTerms.{ring, terms}
 use Rattle.frac_laws.proofs.Sums.{sum_to_zeros}
-use Rattle.ledger_laws.proofs.Extremes.{both_pass, each_passes, place_of_list, length-list_of}
-use Rattle.model_specs.specs.Whole.{list_of}
+use Rattle.whole_laws.proofs.Extremes.{both_pass, each_passes, place_of_list, length-list_of}
+use Rattle.whole_laws.specs.Whole.{list_of}
 use Rattle.model_specs.specs.Curve.{piece_at}
 use Rattle.model_specs.specs.Product.{Product, Transition, transition_at, no_transition}
 use Rattle.model_specs.specs.Payments.{Plan, sojourn_at, sum_at}

@@ -10,7 +10,7 @@ use Rattle.frac_laws.specs.Polynomials.{times_linear, shifted, stretched, all_ov
 use Rattle.frac_laws.proofs.FractionTerms.{ring, terms}
 use Rattle.frac_laws.proofs.Vectors.{number_at-add_lists, number_at-scale_list}
 use Rattle.product_cells.proofs.ProductCurves.{over_none}
-use Rattle.ledger_laws.proofs.Extremes.{each_passes}
+use Rattle.whole_laws.proofs.Extremes.{each_passes}
 use Rattle.model_specs.specs.Curve.{Piece, piece_at}
 use Rattle.model_specs.specs.Product.{Step}
 use Rattle.model_specs.specs.Cells.{Grid, curve_cell, amount_cell}

@@ -6,7 +6,7 @@ use Rattle.std.proofs.Common.{refl, ap, ◌∙◌}
 use Rattle.std.proofs.lemmas.List.Elements.{All-head, All-tail}
 use Rattle.std.specs.Prelude.{length}
 use Rattle.std.proofs.lemmas.List.{length-map}
-use Rattle.model_specs.specs.Whole.{places}
+use Rattle.whole_laws.specs.Whole.{places}
 use Rattle.model_specs.specs.Product.{Product, Transition, transition_at}
 use Rattle.model_specs.specs.Cells.{transition_between}
 use Rattle.state_graph.specs.declared.exits.Edge.{Edge}

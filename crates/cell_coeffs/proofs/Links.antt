@@ -14,7 +14,7 @@ use Rattle.product_cells.proofs.ProductCurves.{over_none}
 use Rattle.frac_laws.specs.Lists.{number_at}
 use Rattle.frac_laws.proofs.FractionTerms.{ring, terms}
 use Rattle.frac_laws.proofs.Sums.{sum_to_zeros}
-use Rattle.model_specs.specs.Whole.{places}
+use Rattle.whole_laws.specs.Whole.{places}
 use Rattle.model_specs.specs.Product.{Product, Step, transition_at}
 use Rattle.model_specs.specs.Payments.{sum_at}
 use Rattle.model_specs.specs.Cells.{Backward, cells_of_32, curve_cell, amount_cell, transition_between}
@@ -22,7 +22,7 @@ use Rattle.model_specs.specs.Systems.{intensity_at, sum_paid_at, first_payment_a
 use Rattle.payment_plan.specs.declared.pattern.Which.{Which}
 use Rattle.payment_plan.specs.Payments.{plan_of}
 use Rattle.product_model.specs.Views.{payments_of}
-use Rattle.ledger_laws.proofs.Extremes.{All-list_of}
+use Rattle.whole_laws.proofs.Extremes.{All-list_of}
 use Rattle.product_cells.proofs.FoundTransitions.{found_has}
 use Rattle.cell_coeffs.specs.Near.{IsNear, IsWithinUnit, IsStored}
 use Rattle.cell_coeffs.specs.Rows.{cell_at, AddsNear, AddsNearTo}

@@ -7,7 +7,7 @@ use Rattle.std.proofs.lemmas.Bool.{false≢true}
 use Rattle.std.proofs.lemmas.Bool.Decides.{eqb_tells}
 use Rattle.std.proofs.lemmas.List.{length-map}
 use Rattle.model_specs.specs.Product.{Product, Transition, transition_at}
-use Rattle.model_specs.specs.Whole.{places}
+use Rattle.whole_laws.specs.Whole.{places}
 use Rattle.model_specs.specs.Cells.{transition_between}
 use Rattle.linear_system.specs.StoredSystem.{StoredSystem}
 use Rattle.linear_system.specs.Setting.{IsMadeFor, HasPlace, is_link, may_hold}

@@ -5,7 +5,7 @@ use Rattle.std.proofs.Common.{ap, ◌∙◌, arith}
 use Rattle.std.proofs.lemmas.List.{length-map}
 use Rattle.std.proofs.lemmas.List.Folds.{list_any_at}
 use Rattle.model_specs.specs.Product.{Product, Transition, transition_at}
-use Rattle.model_specs.specs.Whole.{places}
+use Rattle.whole_laws.specs.Whole.{places}
 use Rattle.model_specs.specs.Cells.{transition_between}
 use Rattle.linear_system.specs.StoredSystem.{StoredSystem}
 use Rattle.linear_system.specs.Setting.{IsMadeFor, is_link}

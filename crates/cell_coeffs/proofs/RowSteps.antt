@@ -9,7 +9,7 @@ use Rattle.frac_laws.specs.Fraction.{Fraction, whole, ◌+ℚ◌, ◌*ℚ◌}
 use Rattle.frac_laws.specs.Sums.{sum_to}
 use Rattle.frac_laws.proofs.FractionTerms.{ring, terms}
 use Rattle.model_specs.specs.Product.{Product, transition_at, no_transition}
-use Rattle.model_specs.specs.Whole.{places}
+use Rattle.whole_laws.specs.Whole.{places}
 use Rattle.model_specs.specs.RecordRules.{IsWellFormed}
 use Rattle.model_specs.specs.Cells.{CellCurves, transition_between}
 use Rattle.std.specs.Prelude.{neg_ℤ}
@@ -24,7 +24,7 @@ use Rattle.cell_coeffs.specs.Near.{nearest_of}
 use Rattle.cell_coeffs.specs.Writing.{WritesNumbers}
 use Rattle.cell_coeffs.proofs.Near.{stored_of_near, near_opposite, near_mono}
 use Rattle.cell_coeffs.proofs.Links.{stored_zero}
-use Rattle.ledger_laws.proofs.Extremes.{All-list_of}
+use Rattle.whole_laws.proofs.Extremes.{All-list_of}
 use Rattle.linear_system.specs.StoredSystem.{StoredSystem, dim_of, stored_number, place_of}
 use Rattle.linear_system.specs.Setting.{HasPlace, HaveSamePlaces}
 use Rattle.cell_coeffs.specs.Near.{IsNear, IsStored}

@@ -15,8 +15,8 @@ use Rattle.frac_laws.proofs.Vectors.{number_at-scale_list}
 use Rattle.model_specs.specs.Cells.{CellCurves}
 use Rattle.model_specs.specs.Systems.{interest_at, intensity_at, sojourn_rate_at, leaving_at, first_payment_at}
 use Rattle.model_specs.specs.Systems.{backward_entry, thiele_system, matrix_of, vector_of}
-use Rattle.model_specs.specs.Whole.{list_of}
-use Rattle.model_laws.proofs.ListsByPlace.{past-list_of, at-list_of, length-list_of}
+use Rattle.whole_laws.specs.Whole.{list_of}
+use Rattle.whole_laws.proofs.ListsByPlace.{past-list_of, at-list_of, length-list_of}
 use Rattle.model_laws.proofs.CellEntries.{systems_have_entries, systems_keep_states}
 use Rattle.linear_system.specs.StoredSystem.{StoredSystem, dim_of, stored_number, stored_free}
 use Rattle.linear_system.specs.StandsFor.{units, StandsFor, MatricesStandNear, VectorsStandNear}

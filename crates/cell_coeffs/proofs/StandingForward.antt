@@ -10,10 +10,10 @@ use Rattle.frac_laws.proofs.FractionTerms.{ring, terms}
 use Rattle.frac_laws.proofs.Linear.{linear, claims, natural}
 use Rattle.frac_laws.proofs.Order.{le_trans}
 use Rattle.frac_laws.proofs.Sums.{sum_to_zeros}
-use Rattle.model_specs.specs.Whole.{list_of}
+use Rattle.whole_laws.specs.Whole.{list_of}
 use Rattle.model_specs.specs.Cells.{CellCurves}
 use Rattle.model_specs.specs.Systems.{intensity_at, leaving_at, kolmogorov_system, matrix_of}
-use Rattle.model_laws.proofs.ListsByPlace.{at-list_of, past-list_of, length-list_of}
+use Rattle.whole_laws.proofs.ListsByPlace.{at-list_of, past-list_of, length-list_of}
 use Rattle.model_laws.proofs.CellEntries.{systems_have_entries, systems_keep_states}
 use Rattle.linear_system.specs.StoredSystem.{StoredSystem, dim_of, stored_number, stored_free}
 use Rattle.linear_system.specs.StandsFor.{units, StandsFor}

@@ -18,8 +18,8 @@ use Rattle.frac_laws.proofs.Vectors.{number_at-scale_list}
 use Rattle.model_specs.specs.Cells.{CellCurves}
 use Rattle.model_specs.specs.Systems.{interest_at, leaving_at, second_payment_at, backward_entry, coupling_entry}
 use Rattle.model_specs.specs.Systems.{second_moment_system, norberg_pair, matrix_of, vector_of}
-use Rattle.model_specs.specs.Whole.{list_of}
-use Rattle.model_laws.proofs.ListsByPlace.{past-list_of, at-list_of, length-list_of}
+use Rattle.whole_laws.specs.Whole.{list_of}
+use Rattle.whole_laws.proofs.ListsByPlace.{past-list_of, at-list_of, length-list_of}
 use Rattle.model_laws.proofs.CellEntries.{systems_have_entries, systems_keep_states}
 use Rattle.linear_system.specs.StoredSystem.{StoredSystem, dim_of, row_of, place_of, number_at_place}
 use Rattle.linear_system.specs.StoredSystem.{stored_number, stored_free}

@@ -20,10 +20,10 @@ use Rattle.cell_laws.proofs.Runs.{norm_of_images-run}
 use Rattle.cell_laws.proofs.Recurrences.{norms_are_driven}
 use Rattle.cell_laws.proofs.Solutions.{defects_respond}
 use Rattle.cell_laws.proofs.TameSums.{total_within, matrix_norms_natural, vector_norms_natural}
-use Rattle.model_specs.specs.Whole.{list_of}
+use Rattle.whole_laws.specs.Whole.{list_of}
 use Rattle.model_specs.specs.Cells.{CellCurves}
 use Rattle.model_specs.specs.Systems.{norberg_pair, thiele_system}
-use Rattle.model_laws.proofs.ListsByPlace.{at-list_of}
+use Rattle.whole_laws.proofs.ListsByPlace.{at-list_of}
 use Rattle.cell_bounds.specs.CellBounds.{of_cell, HasSmallCurves, HasSmallMonth, CountsGrowth, HasSmallPayments}
 use Rattle.cell_bounds.specs.CellBounds.{HasSmallSums}
 use Rattle.cell_bounds.proofs.TameSystems.{backward_tame}

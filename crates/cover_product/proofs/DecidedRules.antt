@@ -5,7 +5,7 @@ use Rattle.std.specs.List.{list_all, AllPass}
 use Rattle.std.proofs.Common.{ap, arith, lit<}
 use Rattle.std.proofs.lemmas.Bool.{false≢true, leb-true, eqb-true, eq-eqb}
 use Rattle.std.proofs.lemmas.List.Sums.{AllPass-from_list_all}
-use Rattle.model_specs.specs.Whole.{places}
+use Rattle.whole_laws.specs.Whole.{places}
 use Rattle.model_specs.specs.Names.{IsGoodName, is_name_byte}
 use Rattle.model_specs.specs.Curve.{Piece, zero_piece}
 use Rattle.model_specs.specs.Product.{Step}
@@ -13,7 +13,7 @@ use Rattle.model_specs.specs.Payments.{constant_step}
 use Rattle.model_specs.specs.MonthNumbers.{coefficient_at, bernstein_numerators}
 use Rattle.model_specs.specs.RecordRules.{AreDistinct, IsBounded, IsBoundedCurve, IsBoundedPayment, months_of}
 use Rattle.model_specs.specs.RecordRules.{piece_starts, step_starts, StartsRise, IsCurve, IsPayment}
-use Rattle.model_laws.proofs.ListsByPlace.{at-list_of, length-list_of}
+use Rattle.whole_laws.proofs.ListsByPlace.{at-list_of, length-list_of}
 
 -- a fact of each member, by a test of each
 pub all_by : {A : Type 0} (p : A → Bool) (P : A → Type 0) (xs : List A) → ((x : A) → p x ≡ true → P x)

@@ -2,7 +2,7 @@
 use Rattle.std.proofs.Common.{◌≡◌, ℕ, ◌+◌, ◌-◌, ◌<◌, ◌≤◌, List, length, get_or, arith, ap, sym, ◌∙◌}
 use Rattle.std.specs.Prelude.{nat_le, filter, map}
 use Rattle.std.proofs.lemmas.List.{length-map, get_or-map}
-use Rattle.model_specs.specs.Whole.{last_or}
+use Rattle.whole_laws.specs.Whole.{last_or}
 use Rattle.model_specs.specs.RecordRules.{StartsRise, months_of}
 use Rattle.curve_pieces.proofs.Covering.{IsLastStart, start_of, covering, held}
 

@@ -7,7 +7,7 @@ use mathlib.Core.Path.{ap₂}
 use Rattle.std.proofs.lemmas.Bool.{and_parts, false≢true}
 use Rattle.std.proofs.lemmas.List.{length-map, get_or-map}
 use Rattle.toml.specs.Data.{Data, Members, boolean, as_array, get_member, no_items}
-use Rattle.model_specs.specs.Whole.{list_of, natural_part}
+use Rattle.whole_laws.specs.Whole.{list_of, natural_part}
 use Rattle.model_specs.specs.Curve.{Piece, zero_piece}
 use Rattle.model_specs.specs.Product.{Step}
 use Rattle.model_specs.specs.Payments.{constant_step}
@@ -24,7 +24,7 @@ use Rattle.product_file.specs.PaymentRules.{sum_items, steps_items, sojourn_item
 use Rattle.product_file.specs.PaymentRules.{rule_10}
 use Rattle.file_checks.specs.Lists.{AreInOrder, starts_of, is_good_piece, is_good_step, is_bounded_piece}
 use Rattle.file_checks.specs.Lists.{is_bounded_step_at}
-use Rattle.model_laws.proofs.ListsByPlace.{at-list_of, length-list_of}
+use Rattle.whole_laws.proofs.ListsByPlace.{at-list_of, length-list_of}
 use Rattle.file_checks.proofs.Checks.{not_empty-some, holds_at, place_none}
 use Rattle.file_checks.proofs.InOrder.{few_in_order, term-le}
 

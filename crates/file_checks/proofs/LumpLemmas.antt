@@ -14,7 +14,7 @@ use Rattle.std.proofs.lemmas.List.{length-take-le, get_or-take, get_or-set_same,
 use Rattle.std.proofs.lemmas.List.Folds.{list_any_more}
 use Rattle.toml.specs.Data.{Data, Members, boolean}
 use Rattle.named_numbers.specs.Numbers.{most_lump}
-use Rattle.model_specs.specs.Whole.{natural_part}
+use Rattle.whole_laws.specs.Whole.{natural_part}
 use Rattle.product_file.specs.Checks.{first_failed}
 use Rattle.product_file.specs.Members.{whole_of, members_of, item_at}
 use Rattle.product_file.specs.HeadRules.{rule_3, rule_4, is_from_to}

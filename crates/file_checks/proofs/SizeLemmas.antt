@@ -10,14 +10,14 @@ use Rattle.std.proofs.lemmas.Bool.Decides.{nat_tests}
 use Rattle.std.proofs.lemmas.List.Folds.{list_all_at}
 use Rattle.toml.specs.Data.{Data, Members}
 use Rattle.named_numbers.specs.Numbers.{most_coefficient}
-use Rattle.model_specs.specs.Whole.{list_of, places}
+use Rattle.whole_laws.specs.Whole.{list_of, places}
 use Rattle.model_specs.specs.MonthNumbers.{coefficient_at, bernstein_numerators}
 use Rattle.model_specs.specs.RecordRules.{IsBounded, months_of}
 use Rattle.product_file.specs.Members.{item_at}
 use Rattle.product_file.specs.CurveRules.{is_bounded, months_of_term}
 use Rattle.product_file.specs.PaymentRules.{amount_of, are_small}
 use Rattle.file_checks.specs.Lists.{starts_of, is_bounded_step_at}
-use Rattle.model_laws.proofs.ListsByPlace.{at-list_of, length-list_of}
+use Rattle.whole_laws.proofs.ListsByPlace.{at-list_of, length-list_of}
 
 -- a test of all values of a function
 pub all_of : {A : Type 0} (p : A → Bool) (n : ℕ) (f : ℕ → A) → ((i : ℕ) → i < n → p (f i) ≡ true)

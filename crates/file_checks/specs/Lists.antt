@@ -1,7 +1,7 @@
 -- The checks of an item of a list, by the list and the place.
 use Rattle.std.specs.Prelude.{◌≡◌, ℕ, ◌<◌, codes, List, length, map, Bool, true, ◌&&◌}
 use Rattle.toml.specs.Data.{Data, Members}
-use Rattle.model_specs.specs.Whole.{natural_part}
+use Rattle.whole_laws.specs.Whole.{natural_part}
 use Rattle.model_specs.specs.RecordRules.{months_of}
 use Rattle.product_file.specs.Members.{whole_of, item_at}
 use Rattle.product_file.specs.CurveRules.{most_coefficients, is_piece, is_in_order, start_of, piece_of, is_bounded}

@@ -2,7 +2,7 @@
 use Rattle.std.specs.Prelude.{ℕ, ◌+◌, ◌*◌, nat_le, pos, unsigned_abs, codes, Bool, ◌&&◌, is_some}
 use Rattle.toml.specs.Data.{Data, Members}
 use Rattle.named_numbers.specs.Numbers.{most_lump, most_states}
-use Rattle.model_specs.specs.Whole.{natural_part}
+use Rattle.whole_laws.specs.Whole.{natural_part}
 use Rattle.product_file.specs.Members.{whole_of, members_of}
 use Rattle.product_file.specs.HeadRules.{is_from_to}
 use Rattle.product_file.specs.TransitionRule.{state_at, state_index}

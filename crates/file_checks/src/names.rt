@@ -5,7 +5,7 @@ ghost use Rattle.std.specs.List.{list_all};
 ghost use Rattle.toml.specs.View.{table_view};
 ghost use Rattle.named_numbers.specs.Numbers.{most_states};
 ghost use Rattle.model_specs.specs.Names.{is_name_byte};
-ghost use Rattle.model_specs.specs.Whole.{list_of};
+ghost use Rattle.whole_laws.specs.Whole.{list_of};
 ghost use Rattle.product_file.specs.Checks.{first_failed};
 ghost use Rattle.product_file.specs.HeadRules.{is_good_name, is_good_state, state_names, most_states_of, rule_3};
 

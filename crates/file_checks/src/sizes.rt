@@ -2,7 +2,7 @@
 
 ghost use Rattle.std.specs.Prelude.{◌≡◌, ◌≤◌, ◌<◌, ◌++◌, [], ◌∷◌, pos, true, length};
 ghost use Rattle.std.specs.List.{list_all};
-ghost use Rattle.model_specs.specs.Whole.{places};
+ghost use Rattle.whole_laws.specs.Whole.{places};
 ghost use Rattle.model_specs.specs.MonthNumbers.{bernstein_numerators};
 ghost use Rattle.named_numbers.specs.Numbers.{most_months};
 ghost use Rattle.product_file.specs.CurveRules.{is_bounded};

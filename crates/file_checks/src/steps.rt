@@ -3,7 +3,7 @@
 ghost use Rattle.std.specs.Prelude.{◌≡◌, ◌<◌, ◌≤◌, IfSome, length, map, None};
 ghost use Rattle.toml.specs.View.{view, table_view};
 ghost use Rattle.named_numbers.specs.Numbers.{most_months};
-ghost use Rattle.model_specs.specs.Whole.{list_of};
+ghost use Rattle.whole_laws.specs.Whole.{list_of};
 ghost use Rattle.product_file.specs.Checks.{first_failed, first_failed_from, first_failed_of_lists};
 ghost use Rattle.product_file.specs.HeadRules.{rule_3, rule_4};
 ghost use Rattle.product_file.specs.TransitionRule.{rule_7, transition_items};

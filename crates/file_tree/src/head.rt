@@ -3,7 +3,7 @@
 ghost use Rattle.std.specs.Prelude.{◌≡◌, ◌≤◌, None};
 ghost use Rattle.toml.specs.View.{table_view};
 ghost use Rattle.named_numbers.specs.Numbers.{most_months};
-ghost use Rattle.model_specs.specs.Whole.{natural_part};
+ghost use Rattle.whole_laws.specs.Whole.{natural_part};
 ghost use Rattle.product_file.specs.Checks.{first_failed};
 ghost use Rattle.product_file.specs.HeadRules.{rule_4, is_from_to, is_format_1};
 ghost use Rattle.product_file.specs.CurveRules.{months_of_term};

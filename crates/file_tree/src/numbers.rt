@@ -3,7 +3,7 @@
 ghost use Rattle.std.specs.Prelude.{◌≡◌, ◌≤◌, codes};
 ghost use Rattle.toml.specs.View.{view, table_view};
 ghost use Rattle.named_numbers.specs.Numbers.{most_months};
-ghost use Rattle.model_specs.specs.Whole.{natural_part};
+ghost use Rattle.whole_laws.specs.Whole.{natural_part};
 ghost use Rattle.product_file.specs.Members.{members_of};
 ghost use Rattle.product_file.specs.CurveRules.{coefficients_of};
 ghost use Rattle.product_file.specs.PaymentRules.{amount_of};

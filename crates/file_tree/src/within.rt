@@ -4,7 +4,7 @@ ghost use Rattle.std.specs.Prelude.{◌≡◌, ◌<◌, length, map, is_some};
 ghost use Rattle.std.specs.List.{list_all};
 ghost use Rattle.toml.specs.Data.{as_integer};
 ghost use Rattle.toml.specs.View.{view, table_view};
-ghost use Rattle.model_specs.specs.Whole.{natural_part};
+ghost use Rattle.whole_laws.specs.Whole.{natural_part};
 ghost use Rattle.model_specs.specs.MonthNumbers.{coefficient_at};
 ghost use Rattle.product_file.specs.Members.{is_absent, whole_of, text_of, items_of, members_of, wholes_of};
 ghost use Rattle.product_file.specs.Members.{has_wholes};

@@ -15,7 +15,7 @@ use Rattle.frac_laws.proofs.Order.{le_trans, le_of_equal}
 use Rattle.frac_laws.proofs.Vectors.{number_at-subtract_lists}
 use Rattle.model_specs.specs.Product.{Product}
 use Rattle.model_specs.specs.Runs.{probability, probabilities}
-use Rattle.model_laws.proofs.ListsByPlace.{at-list_of, past-list_of}
+use Rattle.whole_laws.proofs.ListsByPlace.{at-list_of, past-list_of}
 use Rattle.product_cells.proofs.ProductCurves.{over_none}
 use Rattle.taylor_step.specs.Enclosures.{in_units}
 use Rattle.thiele_backward.proofs.NearNumbers.{at-units, past-units}

@@ -4,7 +4,7 @@ use Rattle.std.specs.Prelude.{List, [], ◌∷◌, length, slice_index, slice_in
 use Rattle.std.proofs.Common.{arith, inl, inr}
 use Rattle.std.proofs.lemmas.Bool.{cases_lt}
 use Rattle.std.proofs.lemmas.Bool.Decides.{nat_tests}
-use Rattle.model_specs.specs.Whole.{last_or}
+use Rattle.whole_laws.specs.Whole.{last_or}
 use Rattle.model_specs.specs.Product.{Step}
 use Rattle.model_specs.specs.Payments.{constant_step, step_at}
 use Rattle.model_specs.specs.RecordRules.{StartsRise, step_starts}

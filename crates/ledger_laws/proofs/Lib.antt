@@ -1,7 +1,5 @@
 pub mod BeforeTerm
 pub mod BoundFacts
-pub mod Extremes
-pub mod Found
 pub mod GrowthFacts
 pub mod HeldSteps
 pub mod Loads

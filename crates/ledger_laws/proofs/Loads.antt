@@ -7,13 +7,13 @@ use Rattle.std.proofs.lemmas.Int.{ints}
 use Rattle.std.proofs.lemmas.List.Elements.{All-map, All-weaker}
 use Rattle.std.proofs.Math.Nat.{pow-zero}
 use mathlib.Core.Path.{ap₂}
-use Rattle.model_specs.specs.Whole.{greatest_whole, least_whole, greatest_natural, natural_part}
+use Rattle.whole_laws.specs.Whole.{greatest_whole, least_whole, greatest_natural, natural_part}
 use Rattle.model_specs.specs.Product.{Step}
 use Rattle.model_specs.specs.Payments.{constant_step, step_at}
 use Rattle.model_specs.specs.MonthNumbers.{bernstein_numerator, bernstein_numerators}
 use Rattle.model_specs.specs.Growth.{load}
 use Rattle.model_specs.specs.RecordRules.{IsPayment, IsBoundedPayment, step_starts}
-use Rattle.ledger_laws.proofs.Extremes.{greatest_natural_most, greatest_whole_most, least_whole_least}
+use Rattle.whole_laws.proofs.Extremes.{greatest_natural_most, greatest_whole_most, least_whole_least}
 use Rattle.ledger_laws.proofs.HeldSteps.{no_step, step_at-has, start-is}
 use Rattle.ledger_laws.proofs.Rounding.{div_ceil_most}
 

@@ -10,8 +10,8 @@ use Rattle.std.proofs.lemmas.Bool.Decides.{nat_tests}
 use Rattle.std.proofs.lemmas.Int.{ints}
 use Rattle.std.proofs.lemmas.List.Elements.{All-map, All-filter, All-weaker}
 use Rattle.std.proofs.Math.Nat.{pow-le-pow_left}
-use Rattle.model_specs.specs.Whole.{list_of, places, greatest_whole, least_whole}
-use Rattle.model_specs.specs.Whole.{greatest_natural, natural_part}
+use Rattle.whole_laws.specs.Whole.{list_of, places, greatest_whole, least_whole}
+use Rattle.whole_laws.specs.Whole.{greatest_natural, natural_part}
 use Rattle.model_specs.specs.Product.{Product, transition_at, no_transition}
 use Rattle.model_specs.specs.MonthNumbers.{curve_numerators, month_unit, greatest_rate, exits, rho, iota, nu}
 use Rattle.model_specs.specs.Growth.{kappa40}
@@ -20,10 +20,10 @@ use Rattle.model_specs.specs.ValuationRules.{RuleBreak, IsAdmissible}
 use Rattle.model_specs.specs.ValuationRules.{first_given, broken_in_months, broken_at_last}
 use Rattle.ledger_laws.specs.MonthLaws.{AdmissibleProductsObey, exit_rates}
 use Rattle.ledger_laws.specs.MonthLaws.{MonthNumbersAreSmall}
-use Rattle.ledger_laws.proofs.Extremes.{le_from_test, both_pass, each_passes, nothing_found}
-use Rattle.ledger_laws.proofs.Extremes.{greatest_natural-has, greatest_whole_natural, greatest_whole_least}
-use Rattle.ledger_laws.proofs.Extremes.{least_whole-has, whole_sum_natural, length-list_of, place_of_list, All-list_of}
-use Rattle.ledger_laws.proofs.Extremes.{part_of_sum}
+use Rattle.whole_laws.proofs.Extremes.{le_from_test, both_pass, each_passes, nothing_found}
+use Rattle.whole_laws.proofs.Extremes.{greatest_natural-has, greatest_whole_natural, greatest_whole_least}
+use Rattle.whole_laws.proofs.Extremes.{least_whole-has, whole_sum_natural, length-list_of, place_of_list, All-list_of}
+use Rattle.whole_laws.proofs.Extremes.{part_of_sum}
 use Rattle.ledger_laws.proofs.Rounding.{div_ceil_most}
 
 -- nothing is given exactly where no part gives anything

@@ -9,7 +9,7 @@ use Rattle.std.proofs.lemmas.Nat.{mul-le}
 use Rattle.std.proofs.lemmas.List.Elements.{All-nil, All-cons, All-head, All-tail, All-map, All-weaker}
 use Rattle.std.proofs.lemmas.List.Sums.{sum_by-cons}
 use Rattle.std.proofs.Math.Nat.{mul-le-mul_right}
-use Rattle.model_specs.specs.Whole.{list_of, places, whole_sum, greatest_natural, natural_part}
+use Rattle.whole_laws.specs.Whole.{list_of, places, whole_sum, greatest_natural, natural_part}
 use Rattle.model_specs.specs.Product.{Product, Step, Transition, Sojourn, Lump, PremiumPattern}
 use Rattle.model_specs.specs.Payments.{Plan, payment_plan, pattern_plan, constant_step, step_at, sojourn_at, sum_at}
 use Rattle.model_specs.specs.Payments.{continuous_pattern, dated_pattern, pattern_dates, lumps_at}
@@ -20,9 +20,9 @@ use Rattle.model_specs.specs.RecordRules.{IsWellFormed, IsPayment, IsBoundedPaym
 use Rattle.ledger_laws.specs.MonthLaws.{HasSmallNumbers, exit_rates}
 use Rattle.ledger_laws.specs.PaymentLaws.{HasLoadsWithin, HasPayWithin, PaymentLoadsAreSmall}
 use Rattle.ledger_laws.specs.PaymentLaws.{PatternLoadsAreSmall, PaymentsPayLittle, PatternPaysLittle}
-use Rattle.ledger_laws.proofs.Extremes.{greatest_natural_most, whole_sum_natural, All-list_of}
-use Rattle.ledger_laws.proofs.Found.{last-has, place-has, found-has, given-has, filter_map-has}
-use Rattle.ledger_laws.proofs.Found.{flat_map-has}
+use Rattle.whole_laws.proofs.Extremes.{greatest_natural_most, whole_sum_natural, All-list_of}
+use Rattle.whole_laws.proofs.Found.{last-has, place-has, found-has, given-has, filter_map-has}
+use Rattle.whole_laws.proofs.Found.{flat_map-has}
 use Rattle.ledger_laws.proofs.Loads.{load_zero, load_one, load_of_payment, load_of_none}
 use Rattle.ledger_laws.proofs.MonthFacts.{exits_below, month_numbers}
 use Rattle.ledger_laws.proofs.Rounding.{div_ceil_most}

@@ -1,6 +1,6 @@
 -- How large the numbers of a month are where rules 15 to 17 hold.
 use Rattle.std.specs.Prelude.{◌≡◌, ℕ, ◌*◌, ◌^◌, ◌<◌, ◌≤◌, ℤ, pos, ◌≤ℤ◌, true, map, length}
-use Rattle.model_specs.specs.Whole.{whole_sum}
+use Rattle.whole_laws.specs.Whole.{whole_sum}
 use Rattle.model_specs.specs.Product.{Product}
 use Rattle.model_specs.specs.MonthNumbers.{month_unit, greatest_rate, exits, rho, iota, nu}
 use Rattle.model_specs.specs.Growth.{kappa40}

@@ -10,7 +10,7 @@ use Rattle.frac_laws.proofs.FractionTerms.{ring, terms}
 use Rattle.frac_laws.proofs.Sums.{sum_to_ext, sum_to_zeros, sum_to_add, sum_to_scale, sum_to_exchange}
 use Rattle.frac_laws.proofs.Vectors.{number_at-scale_list, image-scale}
 use Rattle.cell_laws.specs.Recurrence.{convolved}
-use Rattle.model_specs.specs.Whole.{list_of}
+use Rattle.whole_laws.specs.Whole.{list_of}
 use Rattle.model_specs.specs.Cells.{CellCurves}
 use Rattle.model_specs.specs.Systems.{interest_at, intensity_at, sojourn_rate_at, sum_paid_at, leaving_at, matrix_of}
 use Rattle.model_specs.specs.Systems.{first_payment_at, second_payment_at, backward_entry, coupling_entry, where_same}

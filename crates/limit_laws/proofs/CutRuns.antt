@@ -15,8 +15,8 @@ use Rattle.cell_laws.specs.Recurrence.{convolved}
 use Rattle.cell_laws.specs.DecayLaws.{norms, DecaysBelow}
 use Rattle.cell_laws.specs.Solutions.{IsHeldTo}
 use Rattle.cell_laws.proofs.TameSums.{norm_of_none}
-use Rattle.model_specs.specs.Whole.{list_of}
-use Rattle.model_laws.proofs.ListsByPlace.{at-list_of, past-list_of}
+use Rattle.whole_laws.specs.Whole.{list_of}
+use Rattle.whole_laws.proofs.ListsByPlace.{at-list_of, past-list_of}
 use Rattle.limit_laws.specs.WrittenEquations.{◌·ₚ◌}
 use Rattle.limit_laws.specs.Defect.{run_polynomial}
 

@@ -16,10 +16,10 @@ use Rattle.frac_laws.proofs.Vectors.{number_at-scale_list}
 use Rattle.cell_laws.specs.Systems.{coefficient, taylor_value}
 use Rattle.cell_laws.specs.Pairs.{second_coefficient, second_taylor_value}
 use Rattle.cell_laws.proofs.Recurrences.{taylor_value_sums, second_taylor_value_sums}
-use Rattle.model_specs.specs.Whole.{list_of}
+use Rattle.whole_laws.specs.Whole.{list_of}
 use Rattle.model_specs.specs.Payments.{payment_plan}
 use Rattle.model_specs.specs.Systems.{thiele_system, norberg_pair, kolmogorov_system}
-use Rattle.model_laws.proofs.ListsByPlace.{at-list_of}
+use Rattle.whole_laws.proofs.ListsByPlace.{at-list_of}
 use Rattle.product_cells.specs.EachCell.{plan_scaling, forward_cell}
 use Rattle.moment_laws.specs.CellRuns.{first_after_cells}
 use Rattle.moment_laws.specs.SecondMomentLaws.{moments_after_cells}

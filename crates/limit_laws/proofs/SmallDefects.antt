@@ -23,7 +23,7 @@ use Rattle.cell_laws.proofs.Decay.{eights_natural}
 use Rattle.cell_laws.proofs.Recurrences.{coefficients_recur, second_coefficients_recur}
 use Rattle.cell_laws.proofs.TameDecay.{coefficients_decay, second_halves_decay}
 use Rattle.cell_laws.proofs.TameSums.{norm_of_none}
-use Rattle.model_laws.proofs.ListsByPlace.{at-list_of, past-list_of}
+use Rattle.whole_laws.proofs.ListsByPlace.{at-list_of, past-list_of}
 use Rattle.limit_laws.specs.WrittenEquations.{Polynomial}
 use Rattle.limit_laws.specs.Defect.{defect_at, IsSmallDefect}
 use Rattle.limit_laws.proofs.RightSides.{right_vector, right_vector-at, right_vectors_are_small}

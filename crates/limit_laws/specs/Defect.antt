@@ -7,7 +7,7 @@ use Rattle.frac_laws.specs.Polynomials.{value_at}
 use Rattle.frac_laws.specs.Norms.{Norm, Sup, Sum, norm_of_vector}
 use Rattle.cell_laws.specs.Systems.{coefficient}
 use Rattle.cell_laws.specs.Pairs.{second_coefficient}
-use Rattle.model_specs.specs.Whole.{list_of}
+use Rattle.whole_laws.specs.Whole.{list_of}
 use Rattle.model_specs.specs.Product.{Product}
 use Rattle.model_specs.specs.Payments.{Plan, payment_plan, pattern_plan}
 use Rattle.model_specs.specs.Cells.{CellCurves}

@@ -6,7 +6,7 @@ use Rattle.frac_laws.specs.Lists.{number_at}
 use Rattle.cell_laws.specs.Systems.{coefficient}
 use Rattle.cell_laws.specs.Pairs.{second_coefficient}
 use Rattle.cell_laws.specs.Samples.{plus, minus, two}
-use Rattle.model_specs.specs.Whole.{list_of}
+use Rattle.whole_laws.specs.Whole.{list_of}
 use Rattle.model_specs.specs.Cells.{CellCurves}
 use Rattle.model_specs.specs.Systems.{thiele_system, norberg_pair, kolmogorov_system}
 use Rattle.limit_laws.specs.WrittenEquations.{Polynomial, thiele_defect, norberg_defect, kolmogorov_defect}

@@ -12,7 +12,7 @@ use Rattle.frac_laws.proofs.Lengths.{add_lists_fits}
 use Rattle.cell_laws.specs.Systems.{System, taylor_value}
 use Rattle.cell_laws.specs.Pairs.{CoupledPair, second_taylor_value}
 use Rattle.cell_laws.proofs.Dimensions.{taylor_values_keep_dimension, second_taylor_values_keep_dimension}
-use Rattle.model_specs.specs.Whole.{list_of}
+use Rattle.whole_laws.specs.Whole.{list_of}
 use Rattle.model_specs.specs.Product.{Product, Transition, transition_at, no_transition}
 use Rattle.model_specs.specs.Payments.{Plan, payment_plan, lump_at}
 use Rattle.model_specs.specs.Cells.{Grid, Backward, Forward, cells_of_32, cell_curves}
@@ -23,7 +23,7 @@ use Rattle.model_specs.specs.Runs.{month_back, month_forward, first_before_term,
 use Rattle.model_specs.specs.Runs.{Moments, moments_month_back, before_lumps, probabilities, lump_vector}
 use Rattle.model_laws.specs.EntryLaws.{SystemsHaveEntries, SystemsKeepStates, RunsKeepStates}
 use Rattle.model_laws.specs.EntryLaws.{TransitionsAreFound}
-use Rattle.model_laws.proofs.ListsByPlace.{at-list_of, past-list_of, length-list_of}
+use Rattle.whole_laws.proofs.ListsByPlace.{at-list_of, past-list_of, length-list_of}
 
 -- a number of a table of matrices, and of a table of vectors
 table-entry : (states powers : ℕ) (f : ℕ → ℕ → ℕ → Fraction) (m i j : ℕ) → m < powers → i < states → j < states

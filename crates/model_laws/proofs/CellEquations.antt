@@ -14,7 +14,7 @@ use Rattle.model_specs.specs.Cells.{CellCurves}
 use Rattle.model_specs.specs.Systems.{interest_at, intensity_at, sojourn_rate_at, sum_paid_at, leaving_at}
 use Rattle.model_specs.specs.Systems.{first_payment_at, second_payment_at, backward_entry}
 use Rattle.model_specs.specs.Systems.{coupling_entry, where_same}
-use Rattle.model_specs.specs.Whole.{list_of}
+use Rattle.whole_laws.specs.Whole.{list_of}
 use Rattle.model_specs.specs.Systems.{matrix_of}
 use Rattle.model_specs.specs.Systems.{thiele_system, second_moment_system, norberg_pair, kolmogorov_system}
 use Rattle.model_laws.specs.Equations.{IsQuintic, ThieleSystemSolves, NorbergPairSolves}

@@ -8,7 +8,7 @@ use Rattle.std.proofs.lemmas.List.Elements.{All-map}
 use Rattle.frac_laws.specs.Polynomials.{all_over}
 use Rattle.frac_laws.proofs.ListAlgebra.{length-scale_list}
 use Rattle.frac_laws.proofs.Polynomials.{length-shifted, length-stretched}
-use Rattle.model_specs.specs.Whole.{last_or}
+use Rattle.whole_laws.specs.Whole.{last_or}
 use Rattle.model_specs.specs.Curve.{Piece, piece_at, zero_piece}
 use Rattle.model_specs.specs.Product.{Product, Step, no_transition, transition_at}
 use Rattle.model_specs.specs.Payments.{Plan, payment_plan, pattern_plan, constant_step, step_at}

@@ -12,9 +12,9 @@ use Rattle.frac_laws.proofs.FractionTerms.{ring, terms}
 use Rattle.frac_laws.proofs.Sums.{sum_to_ext, sum_to_add, sum_to_zeros}
 use Rattle.frac_laws.proofs.Convolutions.{sum_to_one}
 use Rattle.frac_laws.proofs.Vectors.{number_at-image, dot-sum}
-use Rattle.model_specs.specs.Whole.{list_of}
+use Rattle.whole_laws.specs.Whole.{list_of}
 use Rattle.model_specs.specs.Systems.{matrix_of, vector_of, where_same}
-use Rattle.model_laws.proofs.ListsByPlace.{at-list_of, past-list_of, length-list_of}
+use Rattle.whole_laws.proofs.ListsByPlace.{at-list_of, past-list_of, length-list_of}
 
 -- number i of a table's product with a vector, where the table is 0 past its last power
 pub image-table : (states powers : ℕ) (f : ℕ → ℕ → ℕ → Fraction) (m i : ℕ) (v : Vector) → i < states

@@ -9,11 +9,11 @@ pub mod FlatInstances
 pub mod FlatRuns
 pub mod LedgerInstances
 pub mod LimitInstances
-pub mod ListsByPlace
 pub mod LongLedgers
 pub mod MomentInstances
 pub mod Moments
 pub mod MonthCoefficients
+pub mod PlanSteps
 pub mod RingInstances
 pub mod RuleInstances
 pub mod RunInstances

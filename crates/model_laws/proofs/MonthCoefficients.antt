@@ -12,7 +12,7 @@ use Rattle.frac_laws.proofs.FractionTerms.{ring, terms}
 use Rattle.frac_laws.proofs.Sums.{sum_to_ext, sum_to_first}
 use Rattle.frac_laws.proofs.Quotients.{over_is, over_add, over_mul, whole_mul}
 use Rattle.std.proofs.Math.Nat.{pow-zero, pow-suc}
-use Rattle.model_specs.specs.Whole.{list_of, whole_sum}
+use Rattle.whole_laws.specs.Whole.{list_of, whole_sum}
 use Rattle.model_specs.specs.MonthNumbers.{coefficient_at, month_coefficient, bernstein_numerator}
 use Rattle.model_laws.specs.NumberLaws.{month_polynomial, CurveNumeratorsStandForBernstein}
 use Rattle.model_laws.specs.NumberLaws.{PaymentNumeratorsStandForBernstein}

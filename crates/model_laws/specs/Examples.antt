@@ -1,6 +1,6 @@
 -- Small products, by which the definitions are checked.
 use Rattle.std.specs.Prelude.{ℕ, suc, ◌%◌, ℤ, pos, negsuc, codes, List, [], ◌∷◌}
-use Rattle.model_specs.specs.Whole.{list_of}
+use Rattle.whole_laws.specs.Whole.{list_of}
 use Rattle.model_specs.specs.Curve.{Piece}
 use Rattle.model_specs.specs.Payments.{constant_step}
 use Rattle.model_specs.specs.Product.{Product, Transition, Sojourn, Lump, no_pattern}

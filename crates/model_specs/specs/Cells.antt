@@ -6,7 +6,7 @@ use Rattle.frac_laws.specs.Fraction.{Fraction, over}
 use Rattle.frac_laws.specs.Lists.{scale_list}
 use Rattle.frac_laws.specs.Polynomials.{shifted, stretched, all_over}
 use Rattle.named_numbers.specs.Numbers.{months_of_year, cells_of_month}
-use Rattle.model_specs.specs.Whole.{places}
+use Rattle.whole_laws.specs.Whole.{places}
 use Rattle.model_specs.specs.Curve.{Piece, piece_at}
 use Rattle.model_specs.specs.Product.{Product, Step, transition_at}
 use Rattle.model_specs.specs.Payments.{Plan, sojourn_at, sum_at}

@@ -1,6 +1,6 @@
 -- Curves by pieces: functions of time that are polynomials from one month to another. This product's own.
 use Rattle.std.specs.Prelude.{ℕ, ℤ, pos, nat_le, filter, List, [], ◌∷◌}
-use Rattle.model_specs.specs.Whole.{last_or}
+use Rattle.whole_laws.specs.Whole.{last_or}
 
 -- a piece of a curve, from a month on: (c_0 + c_1 t + .. + c_5 t^5) / den a year, where t is the time in
 -- years since the piece's start and den the denominator of all curves of a product

@@ -2,7 +2,7 @@
 use Rattle.std.specs.Prelude.{ℕ, ◌+◌, ◌-◌, ◌*◌, ◌^◌, ◌-ℤ◌, unsigned_abs, map, sum, length, List, [], ◌∷◌}
 use Rattle.std.specs.Int.{div_ceil}
 use Rattle.named_numbers.specs.Numbers.{cells_of_half_year, cells_of_two_years, bernstein_unit, pay_unit}
-use Rattle.model_specs.specs.Whole.{list_of, greatest_whole, least_whole, greatest_natural, natural_part}
+use Rattle.whole_laws.specs.Whole.{list_of, greatest_whole, least_whole, greatest_natural, natural_part}
 use Rattle.model_specs.specs.Product.{Product, Step}
 use Rattle.model_specs.specs.Payments.{Plan, step_at, sojourn_at, sum_at}
 use Rattle.model_specs.specs.MonthNumbers.{bernstein_numerators, month_unit, greatest_rate, exits, rho}

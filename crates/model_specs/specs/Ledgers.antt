@@ -3,7 +3,7 @@ use Rattle.std.specs.Prelude.{ℕ, zero, suc, ◌+◌, ◌-◌, ◌*◌, ◌^◌
 use Rattle.std.specs.Int.{div_ceil}
 use Rattle.frac_laws.specs.Ledger.{grow, scale_of_bound}
 use Rattle.named_numbers.specs.Numbers.{cells_of_month, pay_unit, cell_rounding}
-use Rattle.model_specs.specs.Whole.{greatest_natural}
+use Rattle.whole_laws.specs.Whole.{greatest_natural}
 use Rattle.model_specs.specs.Product.{Product}
 use Rattle.model_specs.specs.Payments.{Plan, lumps_at, payment_plan}
 use Rattle.model_specs.specs.Growth.{kappa40, pay, greatest_sum}

@@ -12,4 +12,3 @@ pub mod Runs
 pub mod Stretches
 pub mod Systems
 pub mod ValuationRules
-pub mod Whole

@@ -4,8 +4,8 @@ use Rattle.std.specs.Prelude.{ℕ, suc, ◌+◌, ◌-◌, ◌*◌, ◌/◌, ◌^
 use Rattle.std.specs.Prelude.{filter, map, length, List, slice_index_or}
 use Rattle.frac_laws.specs.Bernstein.{binomial}
 use Rattle.named_numbers.specs.Numbers.{months_of_year, bernstein_unit}
-use Rattle.model_specs.specs.Whole.{list_of, places, whole_sum, greatest_whole, least_whole}
-use Rattle.model_specs.specs.Whole.{greatest_natural, natural_part}
+use Rattle.whole_laws.specs.Whole.{list_of, places, whole_sum, greatest_whole, least_whole}
+use Rattle.whole_laws.specs.Whole.{greatest_natural, natural_part}
 use Rattle.model_specs.specs.Curve.{Piece, piece_at}
 use Rattle.model_specs.specs.Product.{Product, transition_at}
 

@@ -3,7 +3,7 @@ use Rattle.std.specs.Prelude.{ℕ, ◌*◌, ℤ, pos, ◌==◌, nat_le, ◌&&◌
 use Rattle.std.specs.Prelude.{filter, filter_map, find, flat_map, map, option_map, unwrap_or}
 use Rattle.std.specs.Prelude.{List, [], ◌∷◌, slice_index_or}
 use Rattle.std.specs.Int.{div_ceil}
-use Rattle.model_specs.specs.Whole.{places, last_or}
+use Rattle.whole_laws.specs.Whole.{places, last_or}
 use Rattle.model_specs.specs.Product.{Product, Step, Sojourn, Lump, PremiumPattern}
 
 -- payments of a product: the steps of the sum of each transition, the sojourn rates, and the lumps

@@ -3,7 +3,7 @@ use Rattle.std.specs.Prelude.{ℕ, zero, suc, ◌+◌, ℤ, ◌-ℤ◌, unsigned
 use Rattle.std.specs.Prelude.{if◌then◌else◌, List, ◌∷◌, ◌++◌, map, drop, zip, sum, length}
 use Rattle.std.specs.List.{list_all}
 use Rattle.named_numbers.specs.Numbers.{cells_of_month}
-use Rattle.model_specs.specs.Whole.{list_of}
+use Rattle.whole_laws.specs.Whole.{list_of}
 use Rattle.model_specs.specs.Curve.{piece_at}
 use Rattle.model_specs.specs.Product.{Product}
 use Rattle.model_specs.specs.Payments.{Plan, sojourn_at, sum_at}

@@ -6,7 +6,7 @@ use Rattle.frac_laws.specs.Convolution.{convolution}
 use Rattle.frac_laws.specs.Lists.{Vector, Matrix, number_at}
 use Rattle.cell_laws.specs.Systems.{System}
 use Rattle.cell_laws.specs.Pairs.{CoupledPair}
-use Rattle.model_specs.specs.Whole.{list_of}
+use Rattle.whole_laws.specs.Whole.{list_of}
 use Rattle.model_specs.specs.Cells.{CellCurves}
 
 -- r_m: the coefficient of x^m of the interest, 0 past the degree

@@ -4,7 +4,7 @@ use Rattle.std.specs.Prelude.{Bool, not, ◌&&◌, if◌then◌else◌, Option, 
 use Rattle.std.specs.Prelude.{List, [], ◌∷◌}
 use Rattle.std.specs.List.{list_all}
 use Rattle.named_numbers.specs.Numbers.{most_bound}
-use Rattle.model_specs.specs.Whole.{places}
+use Rattle.whole_laws.specs.Whole.{places}
 use Rattle.model_specs.specs.Product.{Product}
 use Rattle.model_specs.specs.Payments.{payment_plan}
 use Rattle.model_specs.specs.MonthNumbers.{curve_numerators, month_unit, rho}

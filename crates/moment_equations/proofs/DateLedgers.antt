@@ -23,10 +23,10 @@ use Rattle.frac_laws.proofs.Vectors.{number_at-scale_list}
 use Rattle.cell_laws.specs.ErrorLaws.{distance}
 use Rattle.model_specs.specs.Product.{Product}
 use Rattle.model_specs.specs.Payments.{Plan, payment_plan, lump_at, lumps_at}
-use Rattle.model_specs.specs.Whole.{greatest_natural}
+use Rattle.whole_laws.specs.Whole.{greatest_natural}
 use Rattle.model_specs.specs.Ledgers.{date_adds, greatest_lump, scale}
 use Rattle.model_specs.specs.Runs.{Moments, before_lumps}
-use Rattle.model_laws.proofs.ListsByPlace.{at-list_of, past-list_of}
+use Rattle.whole_laws.proofs.ListsByPlace.{at-list_of, past-list_of}
 use Rattle.product_cells.specs.EachCell.{plan_scaling}
 use Rattle.sweep_laws.specs.SweepLaws.{units}
 use Rattle.sweep_laws.specs.PairSweepLaws.{AnswersDate}

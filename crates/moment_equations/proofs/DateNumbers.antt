@@ -24,7 +24,7 @@ use Rattle.model_specs.specs.Ledgers.{scale, radius, second_radius, radius_befor
 use Rattle.model_specs.specs.Runs.{Moments, first_before_term, moments_before_term, moments_month_back, month_back}
 use Rattle.model_specs.specs.Runs.{before_lumps, lump_vector, reserve, second_moment}
 use Rattle.model_specs.specs.Systems.{norberg_pair, thiele_system, vector_of}
-use Rattle.model_laws.proofs.ListsByPlace.{at-list_of, past-list_of}
+use Rattle.whole_laws.proofs.ListsByPlace.{at-list_of, past-list_of}
 use Rattle.product_cells.proofs.ProductCurves.{over_none}
 use Rattle.model_specs.specs.ValuationRules.{IsAdmissible}
 use Rattle.cell_laws.specs.ErrorLaws.{distance}

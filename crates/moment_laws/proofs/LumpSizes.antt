@@ -12,12 +12,12 @@ use Rattle.frac_laws.proofs.Linear.{natural}
 use Rattle.frac_laws.proofs.Order.{le_trans, le_of_equal}
 use Rattle.frac_laws.proofs.Quotients.{whole_le, whole-opposite}
 use Rattle.frac_laws.proofs.Sizes.{size_le_of_between}
-use Rattle.model_specs.specs.Whole.{places, greatest_natural}
+use Rattle.whole_laws.specs.Whole.{places, greatest_natural}
 use Rattle.model_specs.specs.Product.{Product, Lump}
 use Rattle.model_specs.specs.Payments.{Plan, lump_at}
 use Rattle.model_specs.specs.Ledgers.{greatest_lump}
 use Rattle.model_specs.specs.Runs.{lump_vector}
-use Rattle.ledger_laws.proofs.Extremes.{place_of_list, length-list_of}
+use Rattle.whole_laws.proofs.Extremes.{place_of_list, length-list_of}
 use Rattle.cell_bounds.proofs.TableNorms.{vector_most}
 
 -- the size of what is given, and 0 where there is none

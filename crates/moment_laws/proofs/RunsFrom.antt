@@ -36,7 +36,7 @@ use Rattle.moment_laws.proofs.LumpSizes.{lump_within, lumps_norm, size-whole}
 use Rattle.product_cells.specs.MonthFractions.{month_bounds, plan_bounds}
 use Rattle.product_cells.proofs.CellsWithin.{cell_within, cell_pays}
 use Rattle.cell_growth.proofs.SmallCellGrowth.{small_cells_grow}
-use Rattle.product_cells.proofs.PlanSteps.{HasFourEach, payment_plan_four, pattern_plan_four}
+use Rattle.model_laws.proofs.PlanSteps.{HasFourEach, payment_plan_four, pattern_plan_four}
 use Rattle.product_cells.proofs.ProductPayments.{pay_covers}
 use Rattle.moment_laws.proofs.LedgerSteps.{date_step, cell_step, within_scale}
 

@@ -49,7 +49,7 @@ use Rattle.product_cells.specs.EachCell.{backward_cell}
 use Rattle.product_cells.specs.MonthFractions.{most_paid}
 use Rattle.cell_bounds.proofs.TableNorms.{vector_most}
 use Rattle.moment_laws.proofs.LumpSizes.{lump_within, lumps_norm, size-whole}
-use Rattle.product_cells.proofs.PlanSteps.{HasFourEach, payment_plan_four, pattern_plan_four}
+use Rattle.model_laws.proofs.PlanSteps.{HasFourEach, payment_plan_four, pattern_plan_four}
 use Rattle.product_cells.proofs.ProductPayments.{x_natural}
 use Rattle.product_cells.proofs.ProductPayments.{pay_covers}
 use Rattle.moment_laws.proofs.LedgerSteps.{grow_least, date_step, cell_step}

@@ -3,8 +3,8 @@ use Rattle.std.proofs.Common.{◌≡◌, ℕ, zero, suc, ◌<◌, ◌≤◌, ℤ
 use Rattle.std.specs.Prelude.{All, Vec, map}
 use Rattle.std.specs.declared.alloc.Global.{Global}
 use Rattle.std.proofs.lemmas.List.Elements.{All-nil, All-cons, All-head, All-tail}
-use Rattle.model_specs.specs.Whole.{list_of}
-use Rattle.model_laws.proofs.ListsByPlace.{at-list_of, length-list_of}
+use Rattle.whole_laws.specs.Whole.{list_of}
+use Rattle.whole_laws.proofs.ListsByPlace.{at-list_of, length-list_of}
 use Rattle.model_specs.specs.Payments.{lumps_at}
 use Rattle.payment_plan.specs.Payments.{Payments, benefits_of}
 use Rattle.payment_plan.specs.Tables.{KeepsTables, lists_of}

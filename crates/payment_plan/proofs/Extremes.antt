@@ -9,7 +9,7 @@ use Rattle.std.specs.Int.{w128}
 use Rattle.std.proofs.lemmas.Int.{ints, fits_signed_from_abs}
 use Rattle.std.proofs.lemmas.List.Elements.{All-head, All-tail}
 use Rattle.named_numbers.specs.Numbers.{most_amount, bernstein_unit}
-use Rattle.model_specs.specs.Whole.{greatest_natural, greatest_whole, least_whole, natural_part}
+use Rattle.whole_laws.specs.Whole.{greatest_natural, greatest_whole, least_whole, natural_part}
 use Rattle.poly_small.proofs.Sixes.{six_are_all}
 use Rattle.payment_plan.specs.Loads.{AreWithin, load_of_numerators}
 

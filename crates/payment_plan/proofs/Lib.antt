@@ -5,7 +5,6 @@ pub mod GoodSteps
 pub mod Lookups
 pub mod PatternDates
 pub mod Patterns
-pub mod Places
 pub mod Shifts
 pub mod Sizes
 pub mod TableRows

@@ -9,12 +9,12 @@ use Rattle.std.proofs.Math.Nat.{mul-le-mul_right, mul_comm, div-add-mod, mod-lt,
 use Rattle.std.proofs.lemmas.Bool.Decides.{eqb_tells, nat_tests}
 use Rattle.std.proofs.lemmas.Bool.{eqb-true, eq-eqb}
 use Rattle.std.proofs.lemmas.List.Folds.{find-append}
-use Rattle.model_specs.specs.Whole.{list_of, places}
+use Rattle.whole_laws.specs.Whole.{list_of, places}
 use Rattle.model_specs.specs.Product.{Lump, PremiumPattern}
 use Rattle.model_specs.specs.Payments.{lumps_at, continuous_pattern, dated_pattern, pattern_dates}
 use Rattle.payment_plan.specs.Payments.{Payments, pattern_of}
 use Rattle.payment_plan.specs.Tables.{payer_at, payers_in_order, pays_at_date}
-use Rattle.payment_plan.proofs.Places.{places-agree, places-none}
+use Rattle.whole_laws.proofs.Places.{places-agree, places-none}
 use Rattle.std.proofs.lemmas.Bool.{cases_lt}
 
 -- the lumps of 1 at a date

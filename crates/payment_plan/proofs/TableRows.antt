@@ -12,14 +12,14 @@ use Rattle.std.proofs.Math.Nat.{mul-le-mul_right}
 use Rattle.std.proofs.Math.Seq.{drop-cons}
 use Rattle.std.proofs.lemmas.Bool.Decides.{eqb_tells}
 use Rattle.std.proofs.lemmas.List.{get_or-set_same, get_or-set_other, get_or-drop, get_or-take, length-take, map-append}
-use Rattle.model_specs.specs.Whole.{list_of}
+use Rattle.whole_laws.specs.Whole.{list_of}
 use Rattle.model_specs.specs.Product as model
 use Rattle.payment_plan.specs.declared.lump.Lump.{Lump}
 use Rattle.payment_plan.specs.Records.{lumps_of}
 use Rattle.payment_plan.specs.Tables.{with_state, amount_at, row_upto, row_at, dated_lumps, lists_of}
 use Rattle.payment_plan.specs.Tables.{is_payer, payer_at, payers_in_order}
 use Rattle.std.proofs.lemmas.Bool.{cases_lt}
-use Rattle.payment_plan.proofs.Places.{places-agree, places-more, list_of-more}
+use Rattle.whole_laws.proofs.Places.{places-agree, places-more, list_of-more}
 
 next_row : (s m n : ℕ) → m < n → m * s + s ≤ n * s
 next_row s m n h = let row : suc m ≤ n = omega arith in omega (arith, mul-le-mul_right s row)

@@ -2,7 +2,7 @@
 use Rattle.std.specs.Prelude.{ℕ, ◌+◌, ◌*◌, ◌≤◌, ℤ, ◌-ℤ◌, List, map, All, unsigned_abs}
 use Rattle.std.specs.Int.{div_ceil}
 use Rattle.named_numbers.specs.Numbers.{most_amount, bernstein_unit}
-use Rattle.model_specs.specs.Whole.{greatest_natural, greatest_whole, least_whole, natural_part}
+use Rattle.whole_laws.specs.Whole.{greatest_natural, greatest_whole, least_whole, natural_part}
 
 -- the greatest size of the numerators over 2488320 and four times their spread, rounded up
 abbrev pub load_of_numerators : List ℤ → ℕ

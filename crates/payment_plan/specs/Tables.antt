@@ -4,7 +4,7 @@ use Rattle.std.specs.Prelude.{length, map, filter_map, find, option_map, slice_i
 use Rattle.std.specs.Prelude.{Vec, slice_range, if◌then◌else◌}
 use Rattle.std.specs.List.{list_any}
 use Rattle.std.specs.declared.alloc.Global.{Global}
-use Rattle.model_specs.specs.Whole.{list_of, places}
+use Rattle.whole_laws.specs.Whole.{list_of, places}
 use Rattle.model_specs.specs.Product.{Lump, PremiumPattern}
 use Rattle.model_specs.specs.Payments.{lumps_at}
 use Rattle.payment_plan.specs.Payments.{Payments, IsAllowed, benefits_of}

@@ -2,7 +2,7 @@
 
 ghost use Rattle.std.specs.Prelude.{◌≡◌, ℕ, suc, ◌+◌, ◌*◌, ◌<◌, ◌≤◌, All, None, IfOk, length, slice_index_or};
 ghost use Rattle.named_numbers.specs.Numbers.{most_months, most_states};
-ghost use Rattle.model_specs.specs.Whole.{list_of};
+ghost use Rattle.whole_laws.specs.Whole.{list_of};
 ghost use Rattle.payment_plan.specs.Records.{lumps_of};
 ghost use Rattle.payment_plan.specs.Tables.{amount_at, row_of, row_at, dated_lumps, lists_of, payers_in_order};
 

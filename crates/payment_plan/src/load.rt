@@ -2,7 +2,7 @@
 
 ghost use Rattle.std.specs.Prelude.{◌≡◌, ◌+◌, ◌-◌, ◌*◌, ◌<◌, ◌≤◌, pos, ◌-ℤ◌, map, unsigned_abs};
 ghost use Rattle.named_numbers.specs.Numbers.{most_months, most_amount};
-ghost use Rattle.model_specs.specs.Whole.{greatest_natural, greatest_whole, least_whole, natural_part};
+ghost use Rattle.whole_laws.specs.Whole.{greatest_natural, greatest_whole, least_whole, natural_part};
 ghost use Rattle.model_specs.specs.Growth.{load};
 ghost use Rattle.model_specs.specs.RecordRules.{IsBoundedStep};
 ghost use Rattle.payment_plan.specs.Records.{record_of};

@@ -26,7 +26,7 @@ use Rattle.cell_laws.specs.DecayLaws.{norms}
 use Rattle.cell_laws.proofs.Decay.{weighted_right_sides_are_small}
 use Rattle.cell_laws.proofs.Recurrences.{coefficients_recur}
 use Rattle.cell_laws.proofs.TameSums.{matrix_norms_natural}
-use Rattle.model_laws.proofs.ListsByPlace.{at-list_of, past-list_of}
+use Rattle.whole_laws.proofs.ListsByPlace.{at-list_of, past-list_of}
 use Rattle.shift_laws.specs.Shifts.{size_at}
 use Rattle.polynomial_runs.specs.PolynomialSystems.{HasPolynomials, table, residual}
 use Rattle.polynomial_runs.specs.FarDecay.{DecaysFar, run_polynomial, RunsMissLittle}

@@ -25,10 +25,10 @@ use Rattle.cell_laws.proofs.Errors.{errors_grow_by_kappa}
 use Rattle.step_laws.specs.StandsFor.{units}
 use Rattle.step_laws.proofs.Distances.{triangle}
 use Rattle.step_laws.proofs.Grown.{grown, units_are, whole_numbers_le}
-use Rattle.model_specs.specs.Whole.{list_of}
+use Rattle.whole_laws.specs.Whole.{list_of}
 use Rattle.model_specs.specs.Runs.{month_back}
 use Rattle.model_specs.specs.Ledgers.{grow_cells}
-use Rattle.model_laws.proofs.ListsByPlace.{length-list_of}
+use Rattle.whole_laws.proofs.ListsByPlace.{length-list_of}
 use Rattle.shift_laws.specs.Shifts.{size_at}
 use Rattle.polynomial_runs.specs.PolynomialSystems.{values, residual}
 use Rattle.polynomial_runs.specs.FarDecay.{run_polynomial}

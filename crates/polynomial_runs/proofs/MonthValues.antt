@@ -19,7 +19,7 @@ use Rattle.cell_laws.specs.Recurrence.{convolved}
 use Rattle.cell_laws.proofs.Cancelling.{cancel_suc}
 use Rattle.cell_laws.proofs.Dimensions.{taylor_values_keep_dimension}
 use Rattle.cell_laws.proofs.Recurrences.{coefficients_recur, taylor_value_sums}
-use Rattle.model_laws.proofs.ListsByPlace.{at-list_of, length-list_of}
+use Rattle.whole_laws.proofs.ListsByPlace.{at-list_of, length-list_of}
 use Rattle.polynomial_runs.specs.PolynomialSystems.{HasPolynomials}
 use Rattle.polynomial_runs.specs.FarDecay.{run_polynomial}
 use Rattle.polynomial_runs.specs.MonthPolynomials.{IsMagnified, MonthsAreValues}

@@ -26,8 +26,8 @@ use Rattle.frac_laws.proofs.Vectors.{number_at-image, dot-add_right, dot-scale_r
 use Rattle.frac_laws.proofs.Polynomials.{shifted-add_lists, shifted-scale_list}
 use Rattle.cell_laws.specs.Systems.{System}
 use Rattle.cell_laws.specs.Recurrence.{convolved}
-use Rattle.model_specs.specs.Whole.{list_of}
-use Rattle.model_laws.proofs.ListsByPlace.{at-list_of, past-list_of}
+use Rattle.whole_laws.specs.Whole.{list_of}
+use Rattle.whole_laws.proofs.ListsByPlace.{at-list_of, past-list_of}
 use Rattle.shift_laws.specs.Shifts.{derivative, size_at}
 use Rattle.polynomial_runs.specs.PolynomialSystems.{HasPolynomials, table, values, added, residual}
 use Rattle.shift_laws.proofs.Shifts.{products_shift, derivatives_shift, size_at-natural}

@@ -7,7 +7,7 @@ use Rattle.frac_laws.specs.Lists.{Vector, number_at}
 use Rattle.frac_laws.specs.Norms.{Norm, norm_of_vector}
 use Rattle.cell_laws.specs.Systems.{System, coefficient}
 use Rattle.cell_laws.specs.Tame.{IsTame, matrix_norm_at}
-use Rattle.model_specs.specs.Whole.{list_of}
+use Rattle.whole_laws.specs.Whole.{list_of}
 use Rattle.shift_laws.specs.Shifts.{size_at}
 use Rattle.polynomial_runs.specs.PolynomialSystems.{HasPolynomials, residual}
 

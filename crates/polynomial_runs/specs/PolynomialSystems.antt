@@ -10,7 +10,7 @@ use Rattle.frac_laws.specs.Polynomials.{value_at, shifted}
 use Rattle.cell_laws.specs.Systems.{System, taylor_value, KeepsDimension}
 use Rattle.cell_laws.specs.Tame.{IsTame}
 use Rattle.cell_laws.specs.ErrorLaws.{distance}
-use Rattle.model_specs.specs.Whole.{list_of}
+use Rattle.whole_laws.specs.Whole.{list_of}
 use Rattle.shift_laws.specs.Shifts.{derivative, size_at}
 
 -- in d states, the number of A_m in row i and column j is the coefficient of x^m of e i j, and number i of g_m that

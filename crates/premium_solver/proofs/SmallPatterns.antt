@@ -18,7 +18,7 @@ use Rattle.frac_laws.proofs.Sizes.{le_of_size_le, opposite_le_of_size_le}
 use Rattle.frac_laws.proofs.WholeProducts.{neg-product}
 use Rattle.fixed_interval.specs.declared.tables.Valued.{Valued}
 use Rattle.fixed_interval.specs.Intervals.{HasEndsUpTo}
-use Rattle.model_specs.specs.Whole.{list_of}
+use Rattle.whole_laws.specs.Whole.{list_of}
 use Rattle.model_specs.specs.Product.{Product, Sojourn, Step, PremiumPattern}
 use Rattle.model_specs.specs.Payments.{Plan, payment_plan, pattern_plan, continuous_pattern, dated_pattern}
 use Rattle.model_specs.specs.Payments.{constant_step, step_at, sojourn_at, sum_at}
@@ -27,7 +27,7 @@ use Rattle.model_specs.specs.Runs.{value_before_issue}
 use Rattle.model_specs.specs.Stretches.{is_constant}
 use Rattle.model_specs.specs.ValuationRules.{IsAdmissible}
 use Rattle.model_specs.specs.Curve.{piece_at}
-use Rattle.ledger_laws.proofs.Found.{last-has, found-has}
+use Rattle.whole_laws.proofs.Found.{last-has, found-has}
 use Rattle.ledger_laws.proofs.GrowthFacts.{radii_small}
 use Rattle.ledger_laws.proofs.MonthFacts.{admissible_obeys}
 use Rattle.ledger_laws.proofs.PlanBounds.{pattern_bound}

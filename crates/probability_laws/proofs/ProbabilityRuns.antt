@@ -36,7 +36,7 @@ use Rattle.model_specs.specs.Runs.{month_forward}
 use Rattle.product_cells.specs.EachCell.{forward_cell}
 use Rattle.cell_bounds.proofs.TableNorms.{unit_at, sum_of_units, sizes-list_of, where_same-is}
 use Rattle.cell_bounds.proofs.TableNorms.{unit-symmetric, unit_natural}
-use Rattle.model_laws.proofs.ListsByPlace.{at-list_of}
+use Rattle.whole_laws.proofs.ListsByPlace.{at-list_of}
 use Rattle.probability_laws.proofs.ForwardCells.{forward_cells_are_small}
 use Rattle.probability_laws.proofs.HalfSquare.{small_forward_cells_grow_little}
 

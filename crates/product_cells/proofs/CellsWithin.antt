@@ -10,7 +10,7 @@ use Rattle.ledger_laws.specs.MonthLaws.{ObeysMonthRules}
 use Rattle.cell_bounds.specs.CellBounds.{IsWithinMonth, PaysWithin}
 use Rattle.product_cells.specs.EachCell.{cell_of}
 use Rattle.product_cells.specs.MonthFractions.{month_bounds, plan_bounds}
-use Rattle.product_cells.proofs.PlanSteps.{HasFourEach}
+use Rattle.model_laws.proofs.PlanSteps.{HasFourEach}
 use Rattle.product_cells.proofs.ProductCurves.{small_curves, small_month, counts_growth}
 use Rattle.product_cells.proofs.ProductPayments.{small_payments, small_sums, x_natural}
 

@@ -1,6 +1,5 @@
 pub mod CurveCells
 pub mod FoundTransitions
-pub mod PlanSteps
 pub mod ProductCells
 pub mod ProductCurves
 pub mod ProductPayments

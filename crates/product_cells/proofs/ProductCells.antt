@@ -7,7 +7,7 @@ use Rattle.ledger_laws.specs.MonthLaws.{ObeysMonthRules}
 use Rattle.ledger_laws.proofs.MonthFacts.{admissible_obeys}
 use Rattle.product_cells.specs.SmallCells.{MonthsAreSmall, CellsHaveSmallCurves, CellsHaveSmallPayments}
 use Rattle.product_cells.specs.SmallCells.{LeavesRoom, ScalesLeaveRoom}
-use Rattle.product_cells.proofs.PlanSteps.{HasFourEach, payment_plan_four, pattern_plan_four}
+use Rattle.model_laws.proofs.PlanSteps.{HasFourEach, payment_plan_four, pattern_plan_four}
 use Rattle.product_cells.proofs.ProductCurves.{small_curves, small_month, counts_growth}
 use Rattle.product_cells.proofs.ProductPayments.{small_payments, small_sums, pay_covers}
 use Rattle.product_cells.proofs.ScaleRoom.{room}

@@ -21,8 +21,8 @@ use Rattle.frac_laws.proofs.Norms.{size_zero}
 use Rattle.frac_laws.proofs.Quotients.{over_is, over_add, over_mul, over_le_of_cross, whole_add, whole_mul}
 use Rattle.frac_laws.proofs.LedgerFacts.{rounded_up_le}
 use Rattle.cell_laws.specs.Tame.{growth_of}
-use Rattle.model_specs.specs.Whole.{list_of, places, whole_sum, greatest_whole, least_whole, greatest_natural}
-use Rattle.model_specs.specs.Whole.{natural_part}
+use Rattle.whole_laws.specs.Whole.{list_of, places, whole_sum, greatest_whole, least_whole, greatest_natural}
+use Rattle.whole_laws.specs.Whole.{natural_part}
 use Rattle.model_specs.specs.Curve.{Piece, piece_at, zero_piece}
 use Rattle.model_specs.specs.Product.{Product, transition_at, no_transition}
 use Rattle.model_specs.specs.Payments.{Plan}
@@ -33,9 +33,9 @@ use Rattle.model_specs.specs.RecordRules.{IsWellFormed, IsCurve}
 use Rattle.model_specs.specs.Cells.{Direction, CellCurves, cells_of_32, cell_curves, curve_cell, transition_between}
 use Rattle.model_specs.specs.Systems.{intensity_at}
 use Rattle.ledger_laws.specs.MonthLaws.{ObeysMonthRules, HasSmallNumbers, exit_rates}
-use Rattle.ledger_laws.proofs.Extremes.{le_from_test, each_passes, greatest_natural_least, greatest_whole_least}
-use Rattle.ledger_laws.proofs.Extremes.{place_of_list, length-list_of, All-list_of}
-use Rattle.ledger_laws.proofs.Found.{last-has}
+use Rattle.whole_laws.proofs.Extremes.{le_from_test, each_passes, greatest_natural_least, greatest_whole_least}
+use Rattle.whole_laws.proofs.Extremes.{place_of_list, length-list_of, All-list_of}
+use Rattle.whole_laws.proofs.Found.{last-has}
 use Rattle.ledger_laws.proofs.MonthFacts.{month_numbers, exits_below}
 use Rattle.cell_bounds.specs.CellBounds.{rate_bound, mean_at, of_cell, HasSmallCurves, HasSmallMonth}
 use Rattle.cell_bounds.specs.CellBounds.{CountsGrowth}

@@ -19,7 +19,7 @@ use Rattle.frac_laws.proofs.Norms.{size_zero}
 use Rattle.frac_laws.proofs.Quotients.{over_add, over_mul, over_scale, whole_add, whole_mul, whole_le, inverse}
 use Rattle.frac_laws.proofs.Sums.{sum_to_ext}
 use Rattle.frac_laws.proofs.LedgerFacts.{rounded_up_le}
-use Rattle.model_specs.specs.Whole.{list_of, places, greatest_whole, least_whole, greatest_natural, natural_part}
+use Rattle.whole_laws.specs.Whole.{list_of, places, greatest_whole, least_whole, greatest_natural, natural_part}
 use Rattle.model_specs.specs.Product.{Product, Step, transition_at}
 use Rattle.model_specs.specs.Payments.{Plan, step_at, sojourn_at, sum_at, constant_step}
 use Rattle.model_specs.specs.MonthNumbers.{bernstein_numerator, month_unit, greatest_rate, exits}
@@ -28,9 +28,9 @@ use Rattle.model_specs.specs.Ledgers.{scale}
 use Rattle.model_specs.specs.RecordRules.{IsWellFormed}
 use Rattle.model_specs.specs.Cells.{Direction, Forward, cells_of_32, amount_cell, transition_between}
 use Rattle.ledger_laws.specs.MonthLaws.{ObeysMonthRules}
-use Rattle.ledger_laws.proofs.Extremes.{greatest_natural_least, greatest_whole_most, least_whole_least}
-use Rattle.ledger_laws.proofs.Extremes.{place_of_list, length-list_of, All-list_of}
-use Rattle.ledger_laws.proofs.Found.{last-has, place-has, found-has}
+use Rattle.whole_laws.proofs.Extremes.{greatest_natural_least, greatest_whole_most, least_whole_least}
+use Rattle.whole_laws.proofs.Extremes.{place_of_list, length-list_of, All-list_of}
+use Rattle.whole_laws.proofs.Found.{last-has, place-has, found-has}
 use Rattle.ledger_laws.proofs.Loads.{load_zero}
 use Rattle.ledger_laws.proofs.BoundFacts.{scale_bounds_parts, scale_bounds_ledger, cells_add, never_falls_by_months}
 use Rattle.ledger_laws.proofs.Rounding.{rises_far}
@@ -44,7 +44,7 @@ use Rattle.product_cells.proofs.CurveCells.{payment_parts, size_covered, spread_
 use Rattle.product_cells.proofs.FoundTransitions.{found_natural, found_has, found_total}
 use Rattle.product_cells.specs.MonthFractions.{found_value, rate_of, rates_of, rate_loads, sum_loads, size_of_step}
 use Rattle.product_cells.specs.MonthFractions.{spread_of_step, sum_sizes, sum_spreads, most_paid_of}
-use Rattle.product_cells.proofs.PlanSteps.{HasFour, HasFourEach}
+use Rattle.model_laws.proofs.PlanSteps.{HasFour, HasFourEach}
 use Rattle.product_cells.proofs.ProductCurves.{within_greatest, above_least, within_sizes, within_natural_part}
 use Rattle.product_cells.proofs.ProductCurves.{over_none}
 use Rattle.product_cells.proofs.ProductCurves.{over_product, some_unit, cell_here}

@@ -13,7 +13,7 @@ use Rattle.model_specs.specs.RecordRules.{IsWellFormed}
 use Rattle.ledger_laws.specs.MonthLaws.{ObeysMonthRules}
 use Rattle.product_cells.specs.EachCell.{plan_scaling}
 use Rattle.product_cells.specs.MonthFractions.{most_paid}
-use Rattle.product_cells.proofs.PlanSteps.{HasFourEach}
+use Rattle.model_laws.proofs.PlanSteps.{HasFourEach}
 use Rattle.product_cells.proofs.ProductPayments.{scaled_room}
 
 -- G times 1 / G

@@ -1,7 +1,7 @@
 -- The numbers of a month, of its transitions and of its payments, as fractions.
 use Rattle.std.specs.Prelude.{ℕ, pos, ◌-◌, ◌^◌, ◌-ℤ◌, unsigned_abs, Option, Some, None, map, length}
 use Rattle.frac_laws.specs.Fraction.{Fraction, over, whole}
-use Rattle.model_specs.specs.Whole.{list_of, greatest_whole, least_whole, greatest_natural, natural_part}
+use Rattle.whole_laws.specs.Whole.{list_of, greatest_whole, least_whole, greatest_natural, natural_part}
 use Rattle.model_specs.specs.Product.{Product, Step}
 use Rattle.model_specs.specs.Payments.{Plan, sojourn_at, sum_at}
 use Rattle.model_specs.specs.MonthNumbers.{bernstein_numerators, month_unit, greatest_rate, rho, iota, nu}

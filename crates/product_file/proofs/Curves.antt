@@ -8,10 +8,10 @@ use Rattle.std.proofs.lemmas.List.{get_or-map, length-map}
 use Rattle.std.proofs.lemmas.List.Elements.{All-map}
 use Rattle.std.proofs.lemmas.Simd.{map-map}
 use Rattle.toml.specs.Data.{Data, Members, boolean}
-use Rattle.model_specs.specs.Whole.{natural_part}
+use Rattle.whole_laws.specs.Whole.{natural_part}
 use Rattle.model_specs.specs.MonthNumbers.{coefficient_at}
 use Rattle.model_specs.specs.RecordRules.{StartsRise, IsCurve, IsBounded, IsBoundedCurve, HasGoodCurves}
-use Rattle.model_laws.proofs.ListsByPlace.{length-list_of}
+use Rattle.whole_laws.proofs.ListsByPlace.{length-list_of}
 use Rattle.product_file.specs.Checks.{first_failed, first_failed_of_lists}
 use Rattle.product_file.specs.Members.{whole_of, item_at, items_of, members_of, wholes_of}
 use Rattle.product_file.specs.TransitionRule.{transition_items}

@@ -9,7 +9,7 @@ use Rattle.std.proofs.lemmas.List.Elements.{All-map}
 use Rattle.std.proofs.lemmas.Simd.{map-map}
 use Rattle.toml.specs.Data.{Data, Members, boolean, as_str}
 use Rattle.named_numbers.specs.Numbers.{most_lump, most_every}
-use Rattle.model_specs.specs.Whole.{natural_part}
+use Rattle.whole_laws.specs.Whole.{natural_part}
 use Rattle.model_specs.specs.Product.{no_pattern, PremiumPattern, Product}
 use Rattle.model_specs.specs.RecordRules.{AreDistinct, HasGoodLumps, HasGoodPattern}
 use Rattle.product_file.specs.Checks.{first_failed}

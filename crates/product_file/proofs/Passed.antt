@@ -5,7 +5,7 @@ use Rattle.std.proofs.lemmas.Bool.{true≢false, false≢true}
 use Rattle.std.proofs.lemmas.Option.{none-some}
 use Rattle.std.specs.Prelude.{Bool, true, false, ◌&&◌, ◌||◌, not, Option, Some, None, option_map, All, slice_index_or}
 use Rattle.std.specs.List.{list_all, list_any}
-use Rattle.model_specs.specs.Whole.{list_of}
+use Rattle.whole_laws.specs.Whole.{list_of}
 use Rattle.model_specs.specs.ValuationRules.{first_given}
 use Rattle.product_file.specs.Checks.{first_failed, first_failed_from, place_in}
 use Rattle.product_file.specs.CurveRules.{not_empty}

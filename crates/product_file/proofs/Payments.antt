@@ -13,7 +13,7 @@ use Rattle.model_specs.specs.Product.{Step}
 use Rattle.model_specs.specs.Payments.{constant_step}
 use Rattle.model_specs.specs.MonthNumbers.{bernstein_numerators, coefficient_at}
 use Rattle.model_specs.specs.RecordRules.{IsPayment, IsBoundedStep, IsBoundedPayment, HasGoodPayments, AreDistinct}
-use Rattle.model_laws.proofs.ListsByPlace.{length-list_of}
+use Rattle.whole_laws.proofs.ListsByPlace.{length-list_of}
 use Rattle.product_file.specs.Checks.{first_failed, first_failed_of_lists}
 use Rattle.product_file.specs.Members.{whole_of, item_at, items_of, members_of, is_absent, wholes_of, listed}
 use Rattle.product_file.specs.HeadRules.{is_format_1, state_names}

@@ -5,7 +5,7 @@ use Rattle.std.specs.Prelude.{Bool, true, false, ◌||◌, ℤ, pos, negsuc, int
 use Rattle.std.specs.List.{list_any}
 use Rattle.std.proofs.lemmas.Bool.{true≢false, false≢true, ltb-true, leb-true, le-leb}
 use Rattle.std.proofs.lemmas.List.{get_or-map, length-map}
-use Rattle.model_specs.specs.Whole.{natural_part}
+use Rattle.whole_laws.specs.Whole.{natural_part}
 use Rattle.model_specs.specs.RecordRules.{AreDistinct}
 use Rattle.product_file.proofs.Passed.{none-passes}
 

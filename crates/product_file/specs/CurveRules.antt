@@ -5,7 +5,7 @@ use Rattle.std.specs.Prelude.{List, [], ◌∷◌, length, map, slice_index_or, 
 use Rattle.std.specs.List.{list_all}
 use Rattle.toml.specs.Data.{Data, Members}
 use Rattle.named_numbers.specs.Numbers.{most_coefficient}
-use Rattle.model_specs.specs.Whole.{list_of, places, natural_part}
+use Rattle.whole_laws.specs.Whole.{list_of, places, natural_part}
 use Rattle.model_specs.specs.Curve.{Piece, zero_piece}
 use Rattle.model_specs.specs.MonthNumbers.{coefficient_at}
 use Rattle.model_specs.specs.RecordRules.{months_of, piece_starts}

@@ -6,7 +6,7 @@ use Rattle.std.specs.List.{list_all}
 use Rattle.toml.specs.Data.{Members, as_str}
 use Rattle.named_numbers.specs.Numbers.{most_months, most_denominator, longest_product_name, longest_state_name}
 use Rattle.named_numbers.specs.Numbers.{most_states, most_states_of_format_1}
-use Rattle.model_specs.specs.Whole.{list_of}
+use Rattle.whole_laws.specs.Whole.{list_of}
 use Rattle.model_specs.specs.Names.{is_name_byte}
 use Rattle.product_file.specs.Members.{has_no_key_but, is_among, whole_of, text_of, items_of, item_at}
 use Rattle.product_file.specs.Keys.{has_key, names_of, top_keys}

@@ -3,7 +3,7 @@ use Rattle.std.specs.Prelude.{ℕ, nat_le, pos, unsigned_abs, codes, List, lengt
 use Rattle.std.specs.List.{list_any}
 use Rattle.toml.specs.Data.{Data, Members}
 use Rattle.named_numbers.specs.Numbers.{most_lump}
-use Rattle.model_specs.specs.Whole.{list_of, natural_part}
+use Rattle.whole_laws.specs.Whole.{list_of, natural_part}
 use Rattle.model_specs.specs.Product.{Lump}
 use Rattle.product_file.specs.Members.{whole_of, items_of, item_at, members_of}
 use Rattle.product_file.specs.Keys.{lump_keys, is_table_of}

@@ -3,7 +3,7 @@ use Rattle.std.specs.Prelude.{ℕ, zero, suc, ◌==◌, pos, codes, List, [], �
 use Rattle.std.specs.Prelude.{Bool, false, not, ◌&&◌, if◌then◌else◌, is_some, unwrap_or, Option}
 use Rattle.std.specs.List.{list_any}
 use Rattle.toml.specs.Data.{Data, table, Members, no_members, as_str, get_member}
-use Rattle.model_specs.specs.Whole.{list_of, natural_part}
+use Rattle.whole_laws.specs.Whole.{list_of, natural_part}
 use Rattle.model_specs.specs.Product.{PremiumPattern, no_pattern}
 use Rattle.named_numbers.specs.Numbers.{most_every}
 use Rattle.product_file.specs.Members.{is_absent, whole_of, items_of, item_at, members_of}

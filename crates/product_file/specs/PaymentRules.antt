@@ -5,7 +5,7 @@ use Rattle.std.specs.Prelude.{map, take, slice_index_or, Bool, false, not, ◌&&
 use Rattle.std.specs.List.{list_all, list_any}
 use Rattle.toml.specs.Data.{Data, Members}
 use Rattle.named_numbers.specs.Numbers.{most_amount, bernstein_unit}
-use Rattle.model_specs.specs.Whole.{list_of, places, natural_part}
+use Rattle.whole_laws.specs.Whole.{list_of, places, natural_part}
 use Rattle.model_specs.specs.Product.{Step}
 use Rattle.model_specs.specs.Payments.{constant_step}
 use Rattle.model_specs.specs.MonthNumbers.{bernstein_numerators}

@@ -1,7 +1,7 @@
 -- What a product file reads as: the product of its tree, or the first broken of rules 1 to 14 with its least place.
 use Rattle.std.specs.Prelude.{ℕ, codes, [], ◌∷◌, map, Option, Some, None, option_map, unwrap_or, Result, Ok, Err}
 use Rattle.toml.specs.Data.{Data, Members}
-use Rattle.model_specs.specs.Whole.{natural_part}
+use Rattle.whole_laws.specs.Whole.{natural_part}
 use Rattle.model_specs.specs.Product.{Product, Transition, Sojourn}
 use Rattle.model_specs.specs.ValuationRules.{RuleBreak, first_given}
 use Rattle.product_file.specs.Members.{whole_of, text_of, items_of, members_of}

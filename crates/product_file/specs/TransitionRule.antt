@@ -2,7 +2,7 @@
 use Rattle.std.specs.Prelude.{ℕ, ◌==◌, codes, List, length, map, take, Bool, not, ◌&&◌, Option, is_some, unwrap_or}
 use Rattle.std.specs.List.{list_any}
 use Rattle.toml.specs.Data.{Data, Members}
-use Rattle.model_specs.specs.Whole.{list_of}
+use Rattle.whole_laws.specs.Whole.{list_of}
 use Rattle.product_file.specs.Members.{text_of, items_of, item_at, members_of}
 use Rattle.product_file.specs.Keys.{transition_keys, is_table_of}
 use Rattle.product_file.specs.HeadRules.{state_of}

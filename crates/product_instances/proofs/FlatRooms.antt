@@ -13,7 +13,7 @@ use Rattle.model_specs.specs.Cells.{CellCurves, Backward, cells_of_32, cell_curv
 use Rattle.model_specs.specs.Systems.{thiele_system, interest_at, sojourn_rate_at}
 use Rattle.model_specs.specs.Runs.{first_before_term, lump_vector}
 use Rattle.model_laws.proofs.FlatRuns.{piece-constant, constant-number, zero-number}
-use Rattle.model_laws.proofs.ListsByPlace.{at-list_of}
+use Rattle.whole_laws.proofs.ListsByPlace.{at-list_of}
 use Rattle.product_instances.specs.FlatRows.{two_rooms}
 use Rattle.product_instances.proofs.FlatStates.{IsFlatIn, cell_adds, month_adds}
 

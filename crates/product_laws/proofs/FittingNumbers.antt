@@ -19,16 +19,16 @@ use Rattle.model_specs.specs.Product.{Product, transition_at, no_transition}
 use Rattle.model_specs.specs.Payments.{Plan, payment_plan, pattern_plan}
 use Rattle.model_specs.specs.Growth.{greatest_sum}
 use Rattle.model_specs.specs.Ledgers.{scale}
-use Rattle.model_specs.specs.Whole.{places}
+use Rattle.whole_laws.specs.Whole.{places}
 use Rattle.model_specs.specs.RecordRules.{IsWellFormed}
 use Rattle.model_specs.specs.Cells.{CellCurves, Backward}
 use Rattle.model_specs.specs.Systems.{vector_of, where_same, first_payment_at, second_payment_at, sojourn_rate_at}
 use Rattle.model_specs.specs.Systems.{coupling_entry, thiele_system, second_moment_system}
-use Rattle.model_laws.proofs.ListsByPlace.{at-list_of}
+use Rattle.whole_laws.proofs.ListsByPlace.{at-list_of}
 use Rattle.cell_laws.specs.Tame.{vector_norm_at}
 use Rattle.ledger_laws.specs.MonthLaws.{ObeysMonthRules}
 use Rattle.ledger_laws.proofs.MonthFacts.{admissible_obeys}
-use Rattle.ledger_laws.proofs.Extremes.{All-list_of}
+use Rattle.whole_laws.proofs.Extremes.{All-list_of}
 use Rattle.cell_bounds.specs.CellBounds.{paid_bound, load_bound, twice_paid_bound, of_cell, HasSmallCurves}
 use Rattle.cell_bounds.specs.CellBounds.{HasSmallMonth, HasSmallPayments, HasSmallSums}
 use Rattle.product_cells.specs.MonthFractions.{month_bounds, plan_bounds}
@@ -42,7 +42,7 @@ use Rattle.cell_bounds.proofs.TableNorms.{unit-same, unit-other, where_same-is}
 use Rattle.cell_bounds.proofs.PaymentBounds.{first_payment_small}
 use Rattle.cell_bounds.proofs.SecondBounds.{exits, exits_natural, exits_small, rate_small, second_by_scale}
 use Rattle.cell_bounds.proofs.TameSystems.{scaled_norm}
-use Rattle.product_cells.proofs.PlanSteps.{HasFourEach, payment_plan_four, pattern_plan_four}
+use Rattle.model_laws.proofs.PlanSteps.{HasFourEach, payment_plan_four, pattern_plan_four}
 use Rattle.product_cells.proofs.ProductCurves.{small_curves, small_month}
 use Rattle.product_cells.proofs.ProductPayments.{small_payments, small_sums, x_natural, scaled_x}
 use Rattle.product_cells.proofs.ScaleRoom.{unit_scale, room}

@@ -18,7 +18,7 @@ use Rattle.cell_bounds.specs.ScaledSystems.{scaled_pair}
 use Rattle.product_cells.specs.EachCell.{backward_cell, plan_scaling}
 use Rattle.product_laws.specs.TameCells.{coupling_of, NorbergPairsAreTame}
 use Rattle.product_cells.specs.MonthFractions.{most_paid}
-use Rattle.product_cells.proofs.PlanSteps.{HasFourEach, payment_plan_four}
+use Rattle.model_laws.proofs.PlanSteps.{HasFourEach, payment_plan_four}
 use Rattle.product_cells.proofs.ProductCurves.{over_product}
 use Rattle.product_cells.proofs.ProductPayments.{scaled_x, pay_covers}
 use Rattle.product_cells.specs.MonthFractions.{month_bounds, plan_bounds}

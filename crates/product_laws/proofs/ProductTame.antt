@@ -15,7 +15,7 @@ use Rattle.ledger_laws.proofs.MonthFacts.{admissible_obeys}
 use Rattle.cell_bounds.specs.ScaledSystems.{scaled_system}
 use Rattle.product_laws.specs.TameCells.{ThieleCellsAreTame, KolmogorovCellsAreTame}
 use Rattle.product_cells.specs.EachCell.{backward_cell, forward_cell, plan_scaling}
-use Rattle.product_cells.proofs.PlanSteps.{HasFourEach, payment_plan_four, pattern_plan_four}
+use Rattle.model_laws.proofs.PlanSteps.{HasFourEach, payment_plan_four, pattern_plan_four}
 use Rattle.product_cells.proofs.ProductPayments.{scaled_x}
 use Rattle.product_cells.specs.MonthFractions.{month_bounds, plan_bounds}
 use Rattle.product_cells.proofs.CellsWithin.{cell_within, cell_pays}

@@ -8,14 +8,14 @@ use Rattle.frac_laws.specs.Sums.{sum_to}
 use Rattle.frac_laws.specs.Lists.{Matrix}
 use Rattle.frac_laws.proofs.FractionTerms.{ring, terms}
 use Rattle.frac_laws.proofs.Sums.{sum_to_zeros}
-use Rattle.model_specs.specs.Whole.{list_of}
+use Rattle.whole_laws.specs.Whole.{list_of}
 use Rattle.model_specs.specs.Product.{Product}
 use Rattle.model_specs.specs.Payments.{Plan}
 use Rattle.model_specs.specs.Cells.{CellCurves, Grid, cell_curves, transition_between}
 use Rattle.model_specs.specs.Systems.{matrix_of, vector_of, intensity_at, sojourn_rate_at, sum_paid_at, leaving_at}
 use Rattle.model_specs.specs.Systems.{first_payment_at, second_payment_at, backward_entry, coupling_entry, where_same}
 use Rattle.model_laws.proofs.CellEntries.{systems_have_entries}
-use Rattle.model_laws.proofs.ListsByPlace.{past-list_of}
+use Rattle.whole_laws.proofs.ListsByPlace.{past-list_of}
 use Rattle.cell_bounds.proofs.TableNorms.{unit-other, where_same-is}
 use Rattle.product_laws.specs.SparseCells.{entry_at, CellsAreSparse, CellsHaveJobDegrees}
 

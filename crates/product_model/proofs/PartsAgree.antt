@@ -2,9 +2,9 @@
 use Rattle.std.specs.Prelude.{◌≡◌, ℕ, ◌<◌, map, List, [], length, slice_index_or}
 use Rattle.std.proofs.Common.{ap, sym, ◌∙◌, arith}
 use Rattle.std.proofs.lemmas.List.{get_or_default}
-use Rattle.model_specs.specs.Whole.{list_of}
+use Rattle.whole_laws.specs.Whole.{list_of}
 use Rattle.model_specs.specs.Product.{Step, transition_at, no_transition}
-use Rattle.model_laws.proofs.ListsByPlace.{at-list_of, length-list_of}
+use Rattle.whole_laws.proofs.ListsByPlace.{at-list_of, length-list_of}
 use Rattle.curve_pieces.specs.PiecewiseCurves.{PiecewiseCurve}
 use Rattle.state_graph.specs.StateGraphs.{StateGraph}
 use Rattle.payment_plan.specs.Payments.{Payments}

@@ -1,8 +1,8 @@
 -- Lists that are given by places.
 use Rattle.std.specs.Prelude.{◌≡◌, ℕ, zero, suc, ◌<◌, All, map, List, [], ◌∷◌, length, slice_index_or, refl}
 use Rattle.std.proofs.Common.{ap, sym, arith, subst}
-use Rattle.model_specs.specs.Whole.{list_of}
-use Rattle.model_laws.proofs.ListsByPlace.{at-list_of, length-list_of}
+use Rattle.whole_laws.specs.Whole.{list_of}
+use Rattle.whole_laws.proofs.ListsByPlace.{at-list_of, length-list_of}
 
 pub map-list_of : {A B : Type 0} (g : A → B) (n : ℕ) (f : ℕ → A) → map g (list_of n f) ≡ list_of n (λ i. g (f i))
 map-list_of g zero f = refl

@@ -1,6 +1,6 @@
 -- The parts of a product, and the product that they make.
 use Rattle.std.specs.Prelude.{◌≡◌, ℕ, ◌<◌, ◌≤◌, ◌^◌, ℤ, List, [], All, length, slice_index_or}
-use Rattle.model_specs.specs.Whole.{list_of, natural_part}
+use Rattle.whole_laws.specs.Whole.{list_of, natural_part}
 use Rattle.model_specs.specs.Names.{IsGoodName}
 use Rattle.model_specs.specs.Product.{Product, Transition}
 use Rattle.model_specs.specs.RecordRules.{IsWellFormed}

@@ -6,7 +6,7 @@ use Rattle.std.proofs.lemmas.List.{get_or-map, length-map}
 use Rattle.std.proofs.lemmas.Simd.{map-map}
 use Rattle.toml.specs.Data.{Data, Members, boolean}
 use Rattle.named_numbers.specs.Numbers.{most_months}
-use Rattle.model_specs.specs.Whole.{natural_part}
+use Rattle.whole_laws.specs.Whole.{natural_part}
 use Rattle.model_specs.specs.Curve.{Piece}
 use Rattle.model_specs.specs.Product.{no_transition}
 use Rattle.model_specs.specs.RecordRules.{StartsRise, IsCurve, IsBoundedCurve, IsPayment, IsWellFormed, piece_starts}

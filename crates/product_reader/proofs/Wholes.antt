@@ -5,7 +5,7 @@ use Rattle.std.proofs.lemmas.List.{length-map}
 use Rattle.std.proofs.lemmas.List.Elements.{All-map}
 use Rattle.std.proofs.lemmas.Simd.{map-map}
 use Rattle.toml.specs.Data.{Members}
-use Rattle.model_specs.specs.Whole.{list_of}
+use Rattle.whole_laws.specs.Whole.{list_of}
 use Rattle.model_specs.specs.Product.{Product, Transition, Step, Sojourn, Lump, PremiumPattern}
 use Rattle.model_specs.specs.RecordRules.{IsWellFormed, IsPayment, IsBoundedPayment}
 use Rattle.curve_pieces.specs.PiecewiseCurves.{PiecewiseCurve}

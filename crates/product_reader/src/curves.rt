@@ -3,7 +3,7 @@
 ghost use Rattle.std.specs.Prelude.{◌≡◌, ◌<◌, ◌≤◌, All, IfOk, length, map};
 ghost use Rattle.toml.specs.View.{view, table_view};
 ghost use Rattle.named_numbers.specs.Numbers.{most_months};
-ghost use Rattle.model_specs.specs.Whole.{natural_part};
+ghost use Rattle.whole_laws.specs.Whole.{natural_part};
 ghost use Rattle.model_specs.specs.RecordRules.{IsCurve, IsBoundedCurve, IsWellFormed};
 ghost use Rattle.curve_pieces.specs.Records.{record_of, records_of};
 ghost use Rattle.product_file.specs.CurveRules.{piece_of, start_of};

@@ -3,7 +3,7 @@
 ghost use Rattle.std.specs.Prelude.{◌≡◌, ◌<◌, ◌≤◌, All, IfOk, length, map};
 ghost use Rattle.toml.specs.View.{view, table_view};
 ghost use Rattle.named_numbers.specs.Numbers.{most_months};
-ghost use Rattle.model_specs.specs.Whole.{natural_part};
+ghost use Rattle.whole_laws.specs.Whole.{natural_part};
 ghost use Rattle.model_specs.specs.RecordRules.{IsWellFormed};
 ghost use Rattle.payment_plan.specs.Records.{record_of, steps_of, sums_of, sojourns_of, lump_of, lumps_of};
 ghost use Rattle.payment_plan.specs.Records.{pattern_rule_of};

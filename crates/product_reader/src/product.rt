@@ -2,7 +2,7 @@
 
 ghost use Rattle.std.specs.Prelude.{◌≡◌, IfOk};
 ghost use Rattle.toml.specs.View.{table_view};
-ghost use Rattle.model_specs.specs.Whole.{natural_part};
+ghost use Rattle.whole_laws.specs.Whole.{natural_part};
 ghost use Rattle.model_specs.specs.RecordRules.{IsWellFormed};
 ghost use Rattle.product_file.specs.Reads.{product_of};
 

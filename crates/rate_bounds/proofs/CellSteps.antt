@@ -2,7 +2,7 @@
 use Rattle.std.proofs.Common.{◌≡◌, ℕ, suc, ◌+◌, ◌*◌, List, [], ◌∷◌, ◌++◌, ap, sym, ◌∙◌, add-one}
 use Rattle.std.specs.Int.{div_ceil}
 use Rattle.frac_laws.specs.Ledger.{grow}
-use Rattle.model_specs.specs.Whole.{list_of}
+use Rattle.whole_laws.specs.Whole.{list_of}
 use Rattle.model_specs.specs.Ledgers.{grow_cells, second_grow_cells}
 use Rattle.state_graph.proofs.ExitSteps.{list_of_more}
 

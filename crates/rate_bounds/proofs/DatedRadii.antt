@@ -1,7 +1,7 @@
 -- Lists of numbers by dates.
 use Rattle.std.proofs.Common.{◌≡◌, ℕ, ◌<◌, List, length, get_or, arith, ap, ◌∙◌}
-use Rattle.model_specs.specs.Whole.{list_of}
-use Rattle.model_laws.proofs.ListsByPlace.{at-list_of, length-list_of}
+use Rattle.whole_laws.specs.Whole.{list_of}
+use Rattle.whole_laws.proofs.ListsByPlace.{at-list_of, length-list_of}
 
 -- the number of a date
 pub number_there : (f : ℕ → ℕ) (n i r : ℕ) (xs : List ℕ) → xs ≡ list_of n f → i < n → r ≡ get_or xs i r → r ≡ f i

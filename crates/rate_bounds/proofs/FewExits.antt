@@ -10,11 +10,11 @@ use Rattle.std.proofs.lemmas.List.Elements.{All-map, All-head, All-tail, filter_
 use Rattle.std.proofs.lemmas.List.Kept.{AllPairs-filter}
 use Rattle.std.proofs.lemmas.Map.Keys.{IsDistinct-from_apart}
 use Rattle.std.proofs.lemmas.Map.Steps.{length-le_from_distinct_below}
-use Rattle.model_specs.specs.Whole.{places}
+use Rattle.whole_laws.specs.Whole.{places}
 use Rattle.model_specs.specs.Product.{Product, Transition, transition_at, no_transition}
 use Rattle.model_specs.specs.MonthNumbers.{exits}
 use Rattle.model_specs.specs.RecordRules.{IsWellFormed}
-use Rattle.model_laws.proofs.ListsByPlace.{at-list_of, length-list_of}
+use Rattle.whole_laws.proofs.ListsByPlace.{at-list_of, length-list_of}
 use Rattle.ledger_laws.proofs.MonthFacts.{exits_below}
 
 -- places rise

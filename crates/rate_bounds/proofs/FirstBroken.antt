@@ -4,7 +4,7 @@ use Rattle.std.specs.Prelude.{None, option_map}
 use Rattle.std.specs.Prelude.{find, not, [], ◌∷◌, refl}
 use Rattle.std.proofs.Common.{ap, sym, ◌∙◌, arith}
 use Rattle.std.proofs.lemmas.Bool.Decides.{nat_tests}
-use Rattle.model_specs.specs.Whole.{places}
+use Rattle.whole_laws.specs.Whole.{places}
 use Rattle.model_specs.specs.Product.{Product}
 use Rattle.model_specs.specs.Payments.{payment_plan}
 use Rattle.model_specs.specs.Ledgers.{bound1024}

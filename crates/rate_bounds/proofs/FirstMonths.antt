@@ -2,7 +2,7 @@
 use Rattle.std.specs.Prelude.{◌≡◌, ℕ, zero, suc, ◌<◌, Bool, true, false, not, find, Option, Some, None, option_map}
 use Rattle.std.specs.Prelude.{[], ◌∷◌, refl, cond}
 use Rattle.std.proofs.Common.{ap, sym, ◌∙◌, arith}
-use Rattle.model_specs.specs.Whole.{list_of}
+use Rattle.whole_laws.specs.Whole.{list_of}
 use Rattle.model_specs.specs.Product.{Product}
 use Rattle.model_specs.specs.ValuationRules.{broken_in_months, first_given, obeys_rule_15, obeys_rule_16}
 use Rattle.model_specs.specs.ValuationRules.{obeys_rule_17}

@@ -5,7 +5,7 @@ use Rattle.std.specs.Prelude.{unsigned_abs, ◌&&◌}
 use Rattle.std.specs.List.{list_all}
 use Rattle.std.specs.Int.{int_max, int_min}
 use Rattle.std.proofs.lemmas.Int.{ints}
-use Rattle.model_specs.specs.Whole.{list_of, greatest_whole, least_whole, greatest_natural, natural_part}
+use Rattle.whole_laws.specs.Whole.{list_of, greatest_whole, least_whole, greatest_natural, natural_part}
 use Rattle.state_graph.proofs.ExitSteps.{list_of_more}
 
 size_of_max : (a b : ℤ) (l : ℕ) → unsigned_abs a < l → unsigned_abs b < l → unsigned_abs (int_max a b) < l

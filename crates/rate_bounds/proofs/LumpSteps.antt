@@ -2,7 +2,7 @@
 use Rattle.std.proofs.Common.{◌≡◌, ℕ, ℤ, ◌+◌, ◌<◌, List, [], ◌∷◌, arith, ap, ◌∙◌, get_or, max, take, length}
 use Rattle.std.specs.Prelude.{map, unsigned_abs}
 use Rattle.std.proofs.lemmas.List.{take_more, map-append}
-use Rattle.model_specs.specs.Whole.{greatest_natural}
+use Rattle.whole_laws.specs.Whole.{greatest_natural}
 use Rattle.rate_bounds.proofs.LeastAndGreatest.{greatest_natural-push}
 
 -- the size of a lump

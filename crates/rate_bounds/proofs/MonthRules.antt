@@ -6,7 +6,7 @@ use Rattle.std.specs.List.{list_all}
 use Rattle.std.specs.Int.{int_max, int_min, w128}
 use Rattle.std.proofs.lemmas.Int.{ints}
 use Rattle.std.proofs.lemmas.List.Folds.{list_all-map}
-use Rattle.model_specs.specs.Whole.{greatest_whole, least_whole}
+use Rattle.whole_laws.specs.Whole.{greatest_whole, least_whole}
 use Rattle.model_specs.specs.Product.{Product, Transition, no_transition}
 use Rattle.model_specs.specs.MonthNumbers.{curve_numerators, month_unit, rho}
 use Rattle.model_specs.specs.ValuationRules.{obeys_rule_15, obeys_rule_16, obeys_rule_17}

@@ -5,7 +5,7 @@ use Rattle.std.specs.Prelude.{map}
 use Rattle.std.specs.Int.{div_ceil}
 use Rattle.std.proofs.lemmas.List.{take_more, map-append, take-append-drop}
 use Rattle.std.proofs.lemmas.List.Sums.{sum_by-append}
-use Rattle.model_specs.specs.Whole.{list_of, greatest_natural}
+use Rattle.whole_laws.specs.Whole.{list_of, greatest_natural}
 use Rattle.model_specs.specs.Product.{Product}
 use Rattle.model_specs.specs.Payments.{Plan}
 use Rattle.model_specs.specs.MonthNumbers.{month_unit, exits}

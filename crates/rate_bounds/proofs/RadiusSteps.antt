@@ -1,9 +1,9 @@
 -- The radii, month by month.
 use Rattle.std.proofs.Common.{◌≡◌, ℕ, suc, ◌+◌, ◌-◌, ◌^◌, ◌<◌, ◌≤◌, arith, refl, ap, sym, ◌∙◌, add-one}
 use Rattle.std.proofs.Common.{List, length, get_or}
-use Rattle.model_specs.specs.Whole.{list_of}
+use Rattle.whole_laws.specs.Whole.{list_of}
 use Rattle.model_specs.specs.Product.{Product}
-use Rattle.model_laws.proofs.ListsByPlace.{at-list_of, length-list_of}
+use Rattle.whole_laws.proofs.ListsByPlace.{at-list_of, length-list_of}
 use Rattle.model_specs.specs.Growth.{kappa40}
 use Rattle.model_specs.specs.Ledgers.{grow_cells, radius, radius_before_term, radius_forward}
 use Rattle.model_specs.specs.RecordRules.{IsWellFormed}

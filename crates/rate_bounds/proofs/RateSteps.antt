@@ -5,7 +5,7 @@ use Rattle.std.specs.Prelude.{map, unsigned_abs}
 use Rattle.std.specs.Int.{w128}
 use Rattle.std.proofs.lemmas.Int.{ints}
 use Rattle.std.proofs.lemmas.List.{take_more, map-append}
-use Rattle.model_specs.specs.Whole.{whole_sum}
+use Rattle.whole_laws.specs.Whole.{whole_sum}
 use Rattle.model_specs.specs.Product.{Product}
 use Rattle.model_specs.specs.MonthNumbers.{greatest_rate}
 use Rattle.state_graph.specs.declared.exits.Edge.{Edge}

@@ -2,7 +2,7 @@
 use Rattle.std.proofs.Common.{◌≡◌, ℕ, ℤ, suc, ◌+◌, ◌-◌, ◌*◌, ◌^◌, ◌<◌, ◌≤◌, List, length, arith, ap, sym, ◌∙◌}
 use Rattle.std.proofs.Common.{add-one}
 use Rattle.std.specs.Prelude.{map, unsigned_abs}
-use Rattle.model_specs.specs.Whole.{greatest_natural}
+use Rattle.whole_laws.specs.Whole.{greatest_natural}
 use Rattle.model_specs.specs.Product.{Product}
 use Rattle.model_specs.specs.Payments.{Plan, lumps_at, payment_plan}
 use Rattle.model_specs.specs.Growth.{kappa40, pay}

@@ -5,7 +5,7 @@ use Rattle.std.specs.Prelude.{unsigned_abs, map}
 use Rattle.std.specs.Int.{div_ceil, int_max, int_min}
 use Rattle.std.proofs.lemmas.Int.{ints}
 use Rattle.std.proofs.Math.Nat.{pow-suc, pow-zero}
-use Rattle.model_specs.specs.Whole.{natural_part, greatest_natural, greatest_whole, least_whole}
+use Rattle.whole_laws.specs.Whole.{natural_part, greatest_natural, greatest_whole, least_whole}
 use Rattle.model_specs.specs.Product.{Product}
 use Rattle.model_specs.specs.MonthNumbers.{curve_numerators, month_unit, rho, iota, nu}
 use Rattle.model_specs.specs.Growth.{kappa40}

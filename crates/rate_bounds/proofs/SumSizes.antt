@@ -2,7 +2,7 @@
 use Rattle.std.proofs.Common.{◌≡◌, ℕ, zero, suc, ◌<◌, List, [], ◌∷◌, Bool, true, false, arith, refl, ap, sym}
 use Rattle.std.proofs.Common.{◌∙◌, length}
 use Rattle.std.specs.Prelude.{map, slice_index_or, if◌then◌else◌, ◌==◌}
-use Rattle.model_specs.specs.Whole.{list_of, greatest_natural}
+use Rattle.whole_laws.specs.Whole.{list_of, greatest_natural}
 use Rattle.model_specs.specs.Product.{Product, Transition, Step, transition_at, no_transition}
 use Rattle.model_specs.specs.Payments.{payment_plan, pattern_plan, continuous_pattern, dated_pattern, step_at}
 use Rattle.model_specs.specs.Growth.{load, sum_size, greatest_sum}

@@ -1,6 +1,6 @@
 -- What an admitted product keeps.
 use Rattle.std.specs.Prelude.{◌≡◌, suc, ◌^◌}
-use Rattle.model_specs.specs.Whole.{list_of}
+use Rattle.whole_laws.specs.Whole.{list_of}
 use Rattle.model_specs.specs.Product.{Product}
 use Rattle.model_specs.specs.Payments.{payment_plan, pattern_plan}
 use Rattle.model_specs.specs.Ledgers as model

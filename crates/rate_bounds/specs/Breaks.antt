@@ -1,6 +1,6 @@
 -- Where a product breaks a rule.
 use Rattle.std.specs.Prelude.{ℕ, Bool, not, Option, find, [], ◌∷◌}
-use Rattle.model_specs.specs.Whole.{places}
+use Rattle.whole_laws.specs.Whole.{places}
 use Rattle.model_specs.specs.Product.{Product}
 use Rattle.model_specs.specs.ValuationRules.{RuleBreak, broken_in_months, first_given}
 use Rattle.model_specs.specs.ValuationRules.{obeys_rule_15, obeys_rule_16, obeys_rule_17}

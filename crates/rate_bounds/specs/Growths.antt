@@ -2,7 +2,7 @@
 use Rattle.std.specs.Prelude.{ℕ, pos, ◌+◌, ◌*◌, ◌^◌, ◌<◌, ◌≤◌, ◌≤ℤ◌, max, neg_ℤ, unsigned_abs}
 use Rattle.std.specs.Int.{div_ceil}
 use Rattle.named_numbers.specs.Numbers.{cells_of_half_year, cells_of_two_years}
-use Rattle.model_specs.specs.Whole.{natural_part}
+use Rattle.whole_laws.specs.Whole.{natural_part}
 use Rattle.rate_bounds.specs.declared.curves.MonthCurves.{MonthCurves}
 
 -- the greatest size of a Bernstein coefficient of the interest, from the greatest and the least of them

@@ -1,6 +1,6 @@
 -- One month of a ledger.
 use Rattle.std.specs.Prelude.{ℕ, suc, ◌+◌, ◌*◌, length}
-use Rattle.model_specs.specs.Whole.{list_of, greatest_natural}
+use Rattle.whole_laws.specs.Whole.{list_of, greatest_natural}
 use Rattle.model_specs.specs.Product.{Product}
 use Rattle.model_specs.specs.Payments.{Plan, lumps_at}
 use Rattle.model_specs.specs.Growth.{kappa40, pay}

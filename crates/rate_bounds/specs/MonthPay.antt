@@ -1,6 +1,6 @@
 -- What a plan pays in a month, part by part.
 use Rattle.std.specs.Prelude.{ℕ, ◌+◌, ◌*◌, List, length, map, sum}
-use Rattle.model_specs.specs.Whole.{list_of, greatest_natural}
+use Rattle.whole_laws.specs.Whole.{list_of, greatest_natural}
 use Rattle.model_specs.specs.Product.{Product}
 use Rattle.model_specs.specs.Payments.{Plan, sojourn_at, sum_at, payment_plan, pattern_plan}
 use Rattle.model_specs.specs.MonthNumbers.{month_unit, exits}

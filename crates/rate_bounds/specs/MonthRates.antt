@@ -1,6 +1,6 @@
 -- The intensities of a month, over 2488320 den a year.
 use Rattle.std.specs.Prelude.{ℕ, ℤ, List, length, map}
-use Rattle.model_specs.specs.Whole.{list_of, least_whole, natural_part, whole_sum}
+use Rattle.whole_laws.specs.Whole.{list_of, least_whole, natural_part, whole_sum}
 use Rattle.model_specs.specs.Product.{Product, transition_at}
 use Rattle.model_specs.specs.MonthNumbers.{curve_numerators, greatest_rate}
 

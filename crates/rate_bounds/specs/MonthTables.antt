@@ -1,6 +1,6 @@
 -- The numbers and the bounds of all months of a product.
 use Rattle.std.specs.Prelude.{◌≡◌, ℕ, pos, ◌<◌, List, length, slice_index_or}
-use Rattle.model_specs.specs.Whole.{greatest_whole, least_whole}
+use Rattle.whole_laws.specs.Whole.{greatest_whole, least_whole}
 use Rattle.model_specs.specs.Product.{Product}
 use Rattle.model_specs.specs.Payments.{payment_plan, pattern_plan}
 use Rattle.model_specs.specs.MonthNumbers as model

@@ -1,7 +1,7 @@
 //! The curves of a product over a month.
 
 ghost use Rattle.std.specs.Prelude.{◌≡◌, ◌<◌, IfOk};
-ghost use Rattle.model_specs.specs.Whole.{greatest_whole, least_whole};
+ghost use Rattle.whole_laws.specs.Whole.{greatest_whole, least_whole};
 ghost use Rattle.model_specs.specs.MonthNumbers.{curve_numerators, rho};
 ghost use Rattle.rate_bounds.specs.MonthRates.{least_rate};
 ghost use Rattle.rate_bounds.specs.MonthTables.{AreCurvesUpTo};

@@ -1,7 +1,7 @@
 //! The greatest and the least of the six Bernstein coefficients of a month.
 
 ghost use Rattle.std.specs.Prelude.{◌≡◌, map, unsigned_abs};
-ghost use Rattle.model_specs.specs.Whole.{greatest_natural, greatest_whole, least_whole};
+ghost use Rattle.whole_laws.specs.Whole.{greatest_natural, greatest_whole, least_whole};
 
 /// The greatest of six numbers.
 pub(crate) fn greatest(numbers: &[i128; 6]) -> i128

@@ -1,7 +1,7 @@
 //! The lumps of a date.
 
 ghost use Rattle.std.specs.Prelude.{◌≡◌, ◌^◌, ◌≤◌, length, map, unsigned_abs};
-ghost use Rattle.model_specs.specs.Whole.{greatest_natural};
+ghost use Rattle.whole_laws.specs.Whole.{greatest_natural};
 ghost use Rattle.model_specs.specs.Payments.{lumps_at};
 ghost use Rattle.model_specs.specs.Ledgers as ledgers;
 ghost use Rattle.rate_bounds.specs.MonthPay.{plan_named};

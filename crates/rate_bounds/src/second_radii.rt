@@ -1,7 +1,7 @@
 //! The second radius of the payment plan at all dates, in units of 2^-64.
 
 ghost use Rattle.std.specs.Prelude.{◌≡◌, ℕ, suc, ◌^◌, ◌<◌, ◌≤◌, IfOk};
-ghost use Rattle.model_specs.specs.Whole.{list_of};
+ghost use Rattle.whole_laws.specs.Whole.{list_of};
 ghost use Rattle.model_specs.specs.Payments.{payment_plan};
 ghost use Rattle.model_specs.specs.Ledgers as ledgers;
 ghost use Rattle.ledger_laws.specs.MonthLaws.{ObeysAllMonths};

@@ -22,7 +22,7 @@ use Rattle.model_specs.specs.Ledgers.{radius, scale}
 use Rattle.model_specs.specs.Rows.{tolerance}
 use Rattle.model_specs.specs.Runs.{value_before_issue}
 use Rattle.model_specs.specs.RecordRules.{IsWellFormed}
-use Rattle.model_specs.specs.Whole.{list_of, natural_part}
+use Rattle.whole_laws.specs.Whole.{list_of, natural_part}
 use Rattle.product_model.proofs.PlacedLists.{map-list_of}
 use Rattle.report_columns.specs.declared.note.Note.{Note}
 use Rattle.report_columns.specs.declared.note.What.{What}

@@ -5,7 +5,7 @@ use Rattle.fixed_interval.specs.declared.printed.Printed.{Printed}
 use Rattle.fixed_interval.specs.declared.tables.Table.{Table}
 use Rattle.fixed_interval.specs.declared.tables.MomentTable.{MomentTable}
 use Rattle.model_specs.specs.Product.{Product}
-use Rattle.model_specs.specs.Whole.{list_of}
+use Rattle.whole_laws.specs.Whole.{list_of}
 use Rattle.report_columns.specs.declared.note.Note.{Note}
 use Rattle.report_columns.specs.declared.note.What.{What}
 use Rattle.reserve_report.specs.declared.report.Kind.{Kind}

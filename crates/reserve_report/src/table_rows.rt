@@ -1,6 +1,6 @@
 //! The rows of tables.
 ghost use Rattle.std.specs.Prelude.{◌≡◌, ◌*◌, ◌<◌, IfOk, length};
-ghost use Rattle.model_specs.specs.Whole.{list_of};
+ghost use Rattle.whole_laws.specs.Whole.{list_of};
 ghost use Rattle.reserve_report.specs.TableRows.{HasTable, HaveTables, moment_row_at};
 ghost use Rattle.reserve_report.specs.TableRows as rows;
 

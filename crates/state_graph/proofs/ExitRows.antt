@@ -4,8 +4,8 @@ use Rattle.std.specs.declared.alloc.Global.{Global}
 use Rattle.std.proofs.Common.{ap, sym, ◌∙◌, arith}
 use Rattle.std.proofs.lemmas.List.{get_or-map, length-map}
 use Rattle.std.proofs.lemmas.List.Elements.{All-same, All-map, All-filter, All-from_get_or}
-use Rattle.model_specs.specs.Whole.{places}
-use Rattle.model_laws.proofs.ListsByPlace.{at-list_of, length-list_of}
+use Rattle.whole_laws.specs.Whole.{places}
+use Rattle.whole_laws.proofs.ListsByPlace.{at-list_of, length-list_of}
 use Rattle.state_graph.specs.StateGraphs.{StateGraph, IsGraph, edge_at}
 use Rattle.state_graph.specs.Exits.{exits_of, exit_by, IsExitTable}
 use Rattle.state_graph.specs.declared.exits.Edge.{Edge}

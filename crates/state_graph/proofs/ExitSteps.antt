@@ -5,7 +5,7 @@ use Rattle.std.proofs.Common.{ap, ◌∙◌, eq-eqb, add-one, append-nil}
 use Rattle.std.proofs.lemmas.Bool.{ne_eqb}
 use Rattle.std.proofs.lemmas.List.{map-append}
 use Rattle.std.proofs.lemmas.List.Elements.{filter-append}
-use Rattle.model_specs.specs.Whole.{list_of, places}
+use Rattle.whole_laws.specs.Whole.{list_of, places}
 use Rattle.state_graph.specs.StateGraphs.{edge_at}
 use Rattle.state_graph.specs.Exits.{exits_among, exit_by}
 

@@ -1,7 +1,7 @@
 -- The transitions out of a state.
 use Rattle.std.specs.Prelude.{◌≡◌, ℕ, ◌==◌, filter, map, List, length, Vec}
 use Rattle.std.specs.declared.alloc.Global.{Global}
-use Rattle.model_specs.specs.Whole.{list_of, places}
+use Rattle.whole_laws.specs.Whole.{list_of, places}
 use Rattle.state_graph.specs.StateGraphs.{StateGraph, edge_at}
 use Rattle.state_graph.specs.declared.exits.Edge.{Edge}
 

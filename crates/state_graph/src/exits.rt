@@ -1,7 +1,7 @@
 //! Exits of states.
 
 ghost use Rattle.std.specs.Prelude.{◌≡◌, IfOk, map};
-ghost use Rattle.model_specs.specs.Whole.{list_of};
+ghost use Rattle.whole_laws.specs.Whole.{list_of};
 ghost use Rattle.state_graph.specs.Exits.{exit_by, exits_of};
 
 use std::alloc::{AllocError, Global};

@@ -30,7 +30,7 @@ use Rattle.moment_laws.specs.MomentLaws.{KeepsLedger}
 use Rattle.moment_laws.specs.SecondMomentLaws.{moments_after_cells}
 use Rattle.sweep_laws.specs.ScaledSteps.{FirstMomentsStep, BothMomentsStep, ProbabilitiesStep, IsTameStep, next_cell}
 use Rattle.sweep_laws.specs.ScaledSteps.{scaled_first}
-use Rattle.product_cells.proofs.PlanSteps.{HasFourEach, payment_plan_four, pattern_plan_four}
+use Rattle.model_laws.proofs.PlanSteps.{HasFourEach, payment_plan_four, pattern_plan_four}
 use Rattle.product_laws.proofs.ProductTame.{thiele_cell_tame, kolmogorov_cells_are_tame}
 use Rattle.product_laws.proofs.ProductPairs.{norberg_pairs_are_tame}
 use Rattle.moment_laws.proofs.LedgerSteps.{within_scale}

@@ -21,7 +21,7 @@ use Rattle.model_specs.specs.Ledgers.{grow_cells, radius_before_term, radius_for
 use Rattle.model_specs.specs.Runs.{first_before_term, lump_vector, probabilities}
 use Rattle.model_specs.specs.Cells.{Backward, cells_of_32}
 use Rattle.model_specs.specs.Systems.{thiele_system}
-use Rattle.model_laws.proofs.ListsByPlace.{at-list_of, past-list_of}
+use Rattle.whole_laws.proofs.ListsByPlace.{at-list_of, past-list_of}
 use Rattle.std.proofs.lemmas.Bool.{cases_lt}
 use Rattle.model_specs.specs.ValuationRules.{IsAdmissible}
 use Rattle.ledger_laws.specs.BeforeTermLaws.{radius_cells, KeepsRadiusSmall}

@@ -20,7 +20,7 @@ use Rattle.model_specs.specs.Product.{Product}
 use Rattle.model_specs.specs.Payments.{Plan, lump_at, lumps_at}
 use Rattle.model_specs.specs.Ledgers.{scale, radius}
 use Rattle.model_specs.specs.Runs.{lump_vector}
-use Rattle.model_laws.proofs.ListsByPlace.{at-list_of, past-list_of}
+use Rattle.whole_laws.proofs.ListsByPlace.{at-list_of, past-list_of}
 use Rattle.ledger_laws.proofs.BoundFacts.{scale_bounds_parts}
 use Rattle.taylor_step.specs.Enclosures.{in_units}
 use Rattle.product_cells.specs.EachCell.{plan_scaling}

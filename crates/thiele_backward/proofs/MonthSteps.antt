@@ -29,7 +29,7 @@ use Rattle.payment_plan.specs.declared.pattern.Which.{Which}
 use Rattle.payment_plan.specs.declared.pattern.Which.TheVariants.{Benefits, Pattern}
 use Rattle.cell_bounds.specs.ScaledSystems.{scaled_system}
 use Rattle.product_cells.specs.EachCell.{backward_cell, plan_scaling}
-use Rattle.product_cells.proofs.PlanSteps.{HasFourEach, payment_plan_four, pattern_plan_four}
+use Rattle.model_laws.proofs.PlanSteps.{HasFourEach, payment_plan_four, pattern_plan_four}
 use Rattle.product_laws.proofs.ProductTame.{thiele_cell_tame}
 use Rattle.moment_laws.specs.MomentLaws.{IsWithinLedger}
 use Rattle.moment_laws.specs.CellRuns.{cells_back}

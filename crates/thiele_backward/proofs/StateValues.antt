@@ -20,7 +20,7 @@ use Rattle.model_specs.specs.Cells.{Backward, cells_of_32}
 use Rattle.model_specs.specs.Ledgers.{radius, bound_before_term}
 use Rattle.model_specs.specs.Runs.{first_before_term}
 use Rattle.model_laws.proofs.CellEntries.{list-length}
-use Rattle.model_laws.proofs.ListsByPlace.{at-list_of, past-list_of}
+use Rattle.whole_laws.proofs.ListsByPlace.{at-list_of, past-list_of}
 use Rattle.product_cells.proofs.ProductCurves.{over_none}
 use Rattle.product_cells.specs.EachCell.{plan_scaling}
 use Rattle.taylor_step.specs.Enclosures.{in_units}

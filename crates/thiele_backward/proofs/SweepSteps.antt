@@ -15,7 +15,7 @@ use Rattle.ledger_laws.proofs.BoundFacts.{cells_add}
 use Rattle.ledger_laws.proofs.GrowthFacts.{radius_back}
 use Rattle.ledger_laws.proofs.MonthFacts.{admissible_obeys}
 use Rattle.product_cells.specs.EachCell.{backward_cell}
-use Rattle.product_cells.proofs.PlanSteps.{HasFourEach}
+use Rattle.model_laws.proofs.PlanSteps.{HasFourEach}
 use Rattle.moment_laws.specs.MomentLaws.{IsWithinLedger}
 use Rattle.moment_laws.specs.RunsFrom.{first_from, first_from_cells, BeginsWithinLedger}
 use Rattle.moment_laws.proofs.MonthCells.{months_go}

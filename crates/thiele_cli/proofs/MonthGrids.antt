@@ -8,7 +8,7 @@ use Rattle.fixed_interval.specs.Printing.{LiesBetween}
 use Rattle.model_specs.specs.Product.{Product}
 use Rattle.model_specs.specs.Payments.{payment_plan}
 use Rattle.model_specs.specs.Runs.{month_grid_reserve}
-use Rattle.ledger_laws.proofs.Extremes.{All-list_of}
+use Rattle.whole_laws.proofs.Extremes.{All-list_of}
 use Rattle.thiele_backward.specs.Results.{AreReserves}
 use Rattle.grid_law.specs.MonthReserves.{HoldMonthGrid}
 use Rattle.report_columns.specs.declared.note.What.TheVariants as what

@@ -7,11 +7,11 @@ use Rattle.std.proofs.lemmas.Int.{ints}
 use Rattle.std.proofs.Math.Nat.{pow-le-pow_left}
 use Rattle.toml.specs.Data.{Data, Members}
 use Rattle.toml.specs.View.{items_of}
-use Rattle.model_specs.specs.Whole.{list_of}
+use Rattle.whole_laws.specs.Whole.{list_of}
 use Rattle.model_specs.specs.Curve.{Piece, zero_piece}
 use Rattle.model_specs.specs.RecordRules.{months_of, piece_starts}
 use Rattle.ledger_laws.proofs.HeldSteps.{starts_by as at_most}
-use Rattle.model_laws.proofs.ListsByPlace.{at-list_of, past-list_of, length-list_of}
+use Rattle.whole_laws.proofs.ListsByPlace.{at-list_of, past-list_of, length-list_of}
 use Rattle.product_file.specs.Checks.{first_failed, first_failed_of_lists}
 use Rattle.product_file.specs.Members.{listed, item_at, whole_of}
 use Rattle.product_file.specs.HeadRules.{is_format_1}

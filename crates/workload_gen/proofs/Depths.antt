@@ -2,7 +2,7 @@
 use Rattle.std.proofs.Common.{ℕ, zero, suc, ◌≤◌, arith}
 use Rattle.toml.specs.Data.{Data, depth, items_depth, members_depth}
 use Rattle.toml.specs.View.{items_of}
-use Rattle.model_specs.specs.Whole.{list_of}
+use Rattle.whole_laws.specs.Whole.{list_of}
 use Rattle.workload_gen.specs.declared.transition.Transition.{Transition}
 use Rattle.workload_gen.specs.declared.transition.Transition.TheVariants as variant
 use Rattle.workload_gen.specs.Draws.{state_after}

@@ -5,12 +5,12 @@ use Rattle.std.specs.List.{list_all}
 use Rattle.std.proofs.lemmas.Bool.{cases_lt}
 use Rattle.std.proofs.lemmas.Int.{ints}
 use Rattle.std.proofs.lemmas.List.Elements.{All-nil, All-cons, All-head, All-tail, All-weaker}
-use Rattle.model_specs.specs.Whole.{whole_sum, greatest_whole}
+use Rattle.whole_laws.specs.Whole.{whole_sum, greatest_whole}
 use Rattle.model_specs.specs.Curve.{Piece}
 use Rattle.model_specs.specs.MonthNumbers.{bernstein_numerators, curve_numerators, rho}
 use Rattle.model_specs.specs.ValuationRules.{obeys_rule_15, obeys_rule_16, obeys_rule_17}
 use Rattle.ledger_laws.specs.MonthLaws.{ObeysAllMonths}
-use Rattle.ledger_laws.proofs.Extremes.{greatest_whole_most}
+use Rattle.whole_laws.proofs.Extremes.{greatest_whole_most}
 use Rattle.ledger_laws.proofs.HeldSteps.{starts_by}
 use Rattle.workload_gen.specs.declared.transition.Transition.{Transition}
 use Rattle.workload_gen.specs.declared.transition.Transition.TheVariants as variant

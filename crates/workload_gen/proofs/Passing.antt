@@ -2,7 +2,7 @@
 use Rattle.std.proofs.Common.{◌≡◌, ℕ, zero, suc, ◌<◌, arith, refl, ap}
 use Rattle.std.specs.Prelude.{Bool, true, false, ◌&&◌, None, option_map, find}
 use Rattle.std.specs.List.{list_all}
-use Rattle.model_specs.specs.Whole.{list_of}
+use Rattle.whole_laws.specs.Whole.{list_of}
 use Rattle.product_file.specs.Checks.{first_failed}
 use Rattle.product_file.specs.CurveRules.{not_empty}
 

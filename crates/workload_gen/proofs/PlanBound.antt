@@ -4,7 +4,7 @@ use Rattle.std.specs.Prelude.{pos, ◌==◌, ◌&&◌, nat_le, true, unsigned_ab
 use Rattle.std.specs.Prelude.{ℤ, slice_index_or}
 use Rattle.std.proofs.lemmas.Bool.Decides.{nat_tests}
 use Rattle.std.proofs.lemmas.List.Elements.{All-nil, All-cons, All-map}
-use Rattle.model_specs.specs.Whole.{list_of, places, greatest_natural}
+use Rattle.whole_laws.specs.Whole.{list_of, places, greatest_natural}
 use Rattle.model_specs.specs.Product.{Product, Step, Lump}
 use Rattle.model_specs.specs.Payments.{Plan, payment_plan, constant_step, step_at, lumps_at}
 use Rattle.model_specs.specs.Growth.{load, sum_size, greatest_sum}
@@ -14,8 +14,8 @@ use Rattle.model_specs.specs.ValuationRules.{obeys_rule_18}
 use Rattle.ledger_laws.specs.MonthLaws.{ObeysAllMonths}
 use Rattle.ledger_laws.specs.PaymentLaws.{HasLoadsWithin}
 use Rattle.ledger_laws.specs.PlanBoundLaws.{AddsAtMost}
-use Rattle.ledger_laws.proofs.Extremes.{greatest_natural_most, All-list_of}
-use Rattle.ledger_laws.proofs.Found.{place-has, given-has, filter_map-has}
+use Rattle.whole_laws.proofs.Extremes.{greatest_natural_most, All-list_of}
+use Rattle.whole_laws.proofs.Found.{place-has, given-has, filter_map-has}
 use Rattle.ledger_laws.proofs.HeldSteps.{starts_by}
 use Rattle.ledger_laws.proofs.Loads.{load_of, load_zero}
 use Rattle.ledger_laws.proofs.MonthFacts.{month_numbers}

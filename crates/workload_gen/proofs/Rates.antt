@@ -4,7 +4,7 @@ use Rattle.std.specs.Prelude.{ℤ, map, All}
 use Rattle.std.proofs.lemmas.Int.{ints}
 use Rattle.std.proofs.lemmas.List.Elements.{All-weaker}
 use Rattle.toml.specs.View.{items_of}
-use Rattle.model_specs.specs.Whole.{list_of}
+use Rattle.whole_laws.specs.Whole.{list_of}
 use Rattle.model_specs.specs.Curve.{Piece}
 use Rattle.model_specs.specs.MonthNumbers.{bernstein_numerators, curve_numerators}
 use Rattle.product_file.specs.Members.{listed}

@@ -7,7 +7,7 @@ use Rattle.std.specs.String.{string_cmp}
 use Rattle.std.proofs.lemmas.List.{map-append, take_more}
 use Rattle.toml.specs.View.{view, members_view}
 use Rattle.toml.specs.declared.value.Value.{Value}
-use Rattle.model_specs.specs.Whole.{list_of}
+use Rattle.whole_laws.specs.Whole.{list_of}
 use Rattle.workload_gen.specs.Tree.{with_member}
 
 abbrev Entry : Type 0

@@ -3,7 +3,7 @@ use Rattle.std.proofs.Common.{◌≡◌, ℕ, zero, suc, ◌+◌, ◌*◌, ◌<�
 use Rattle.std.specs.Prelude.{false, nat_le, filter}
 use Rattle.std.proofs.lemmas.Bool.{cases_lt}
 use Rattle.std.proofs.lemmas.Bool.Decides.{nat_tests}
-use Rattle.model_specs.specs.Whole.{list_of, last_or}
+use Rattle.whole_laws.specs.Whole.{list_of, last_or}
 use Rattle.model_specs.specs.Curve.{Piece, zero_piece, piece_at}
 use Rattle.ledger_laws.proofs.HeldSteps.{starts_by}
 

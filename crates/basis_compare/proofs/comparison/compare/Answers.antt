@@ -1,5 +1,5 @@
 use Rattle.std.proofs.Common.{◌≡◌, ◌*◌, max, length, ap, sym, ◌∙◌}
-use Rattle.model_specs.specs.Whole.{list_of}
+use Rattle.whole_laws.specs.Whole.{list_of}
 use Rattle.basis_compare.specs.Differences.{change_at}
 use Rattle.basis_compare.proofs.Alike.{are_alike}
 use Rattle.basis_compare.proofs.ChangeRows.{AreOfBases, same_lengths, changes_of_bases, changes_have_states}

@@ -1,5 +1,5 @@
 use Rattle.std.proofs.Common.{◌≡◌, ◌*◌}
-use Rattle.model_specs.specs.Whole.{list_of}
+use Rattle.whole_laws.specs.Whole.{list_of}
 use Rattle.basis_compare.specs.Differences.{change_at}
 use Rattle.basis_compare.proofs.differences.rows_of.Given as goal
 

@@ -1,7 +1,7 @@
 use Rattle.std.proofs.Common.{[], ◌∷◌, ◌++◌, ap, sym, subst, ◌∙◌}
 use Rattle.std.specs.Prelude.{All}
 use Rattle.std.proofs.lemmas.List.Elements.{All-push}
-use Rattle.model_specs.specs.Whole.{list_of}
+use Rattle.whole_laws.specs.Whole.{list_of}
 use Rattle.state_graph.proofs.ExitSteps.{list_of_more}
 use Rattle.basis_compare.specs.Differences.{IsSmall, printed_at}
 use Rattle.basis_compare.proofs.printed_tables.printed_reserves.Goals as goal

@@ -1,6 +1,6 @@
 use Rattle.std.proofs.Common.{◌≡◌}
 use Rattle.std.specs.Prelude.{All}
-use Rattle.model_specs.specs.Whole.{list_of}
+use Rattle.whole_laws.specs.Whole.{list_of}
 use Rattle.basis_compare.specs.Differences.{IsSmall, printed_at}
 use Rattle.basis_compare.proofs.printed_tables.printed_reserves.Given as goal
 

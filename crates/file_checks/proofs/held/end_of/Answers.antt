@@ -1,7 +1,7 @@
 use Rattle.std.proofs.Common.{◌+◌, map, ap, ◌∙◌, arith}
 use Rattle.std.proofs.lemmas.List.{length-map}
 use Rattle.toml.specs.View.{view, table_view}
-use Rattle.model_specs.specs.Whole.{natural_part}
+use Rattle.whole_laws.specs.Whole.{natural_part}
 use Rattle.product_file.specs.CurveRules.{start_of}
 use Rattle.file_checks.proofs.InOrder.{start-small}
 use Rattle.file_checks.proofs.held.end_of.Goals as goal

@@ -1,6 +1,6 @@
 use Rattle.std.proofs.Common.{◌≡◌, ◌+◌, map, length, ap, sym, ◌∙◌, arith}
 use Rattle.std.proofs.lemmas.List.{length-map}
-use Rattle.model_specs.specs.Whole.{list_of}
+use Rattle.whole_laws.specs.Whole.{list_of}
 use Rattle.toml.specs.View.{table_view}
 use Rattle.product_file.specs.Checks.{first_failed_from}
 use Rattle.product_file.specs.TransitionRule.{transition_items}

@@ -1,5 +1,5 @@
 use Rattle.std.proofs.Common.{◌≡◌}
-use Rattle.model_specs.specs.Whole.{list_of}
+use Rattle.whole_laws.specs.Whole.{list_of}
 use Rattle.payment_plan.specs.Tables.{lists_of, row_at}
 use Rattle.payment_plan.proofs.dates.rows.Given as goal
 

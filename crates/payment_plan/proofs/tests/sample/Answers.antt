@@ -6,8 +6,8 @@ use Rattle.std.specs.List.{list_all}
 use Rattle.std.proofs.lemmas.Bool.Decides.{nat_tests}
 use Rattle.std.proofs.lemmas.List.Elements.{All-cons, All-nil}
 use Rattle.std.proofs.lemmas.List.Sums.{AllPass-from_list_all}
-use Rattle.model_specs.specs.Whole.{places}
-use Rattle.model_laws.proofs.ListsByPlace.{at-list_of, length-list_of}
+use Rattle.whole_laws.specs.Whole.{places}
+use Rattle.whole_laws.proofs.ListsByPlace.{at-list_of, length-list_of}
 use Rattle.model_specs.specs.Product.{Step, Lump}
 use Rattle.model_specs.specs.MonthNumbers.{coefficient_at, bernstein_numerators}
 use Rattle.model_specs.specs.RecordRules.{AreDistinct, IsBoundedStep, IsBoundedPayment, IsPayment}

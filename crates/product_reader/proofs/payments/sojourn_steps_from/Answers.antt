@@ -2,7 +2,7 @@ use Rattle.std.proofs.Common.{◌≤◌, ap, sym, subst, ◌∙◌}
 use Rattle.std.specs.Prelude.{All}
 use Rattle.toml.specs.View.{table_view}
 use Rattle.named_numbers.specs.Numbers.{most_months}
-use Rattle.model_specs.specs.Whole.{natural_part}
+use Rattle.whole_laws.specs.Whole.{natural_part}
 use Rattle.product_file.specs.Members.{item_at}
 use Rattle.product_file.specs.CurveRules.{start_of, months_of_term}
 use Rattle.product_file.specs.PaymentRules.{steps_items, sojourn_items}

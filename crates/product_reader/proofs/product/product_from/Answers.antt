@@ -3,7 +3,7 @@ use Rattle.std.proofs.lemmas.Int.{to_z-of_z}
 use mir.Syntax.{w64}
 use mir.Val.{SFits}
 use Rattle.toml.specs.View.{table_view}
-use Rattle.model_specs.specs.Whole.{natural_part}
+use Rattle.whole_laws.specs.Whole.{natural_part}
 use Rattle.product_model.specs.Parts.{FitTogether, product_of_parts}
 use Rattle.product_file.specs.Reads.{product_of}
 use Rattle.product_reader.proofs.Wholes.{parts_by_one, parts_fit, product_again}

@@ -1,6 +1,6 @@
 use Rattle.std.proofs.Common.{◌≡◌, ◌^◌, suc, ap, ◌∙◌}
 use Rattle.frac_laws.specs.Ledger.{scale_of_bound}
-use Rattle.model_specs.specs.Whole.{list_of}
+use Rattle.whole_laws.specs.Whole.{list_of}
 use Rattle.model_specs.specs.Payments.{payment_plan}
 use Rattle.model_specs.specs.Ledgers.{scale, second_before_term}
 use Rattle.rate_bounds.proofs.ledgers.ledgers_of.Goals as goal

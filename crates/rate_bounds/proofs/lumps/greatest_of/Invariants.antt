@@ -1,6 +1,6 @@
 use Rattle.std.proofs.Common.{◌≡◌, take}
 use Rattle.std.specs.Prelude.{map, unsigned_abs}
-use Rattle.model_specs.specs.Whole.{greatest_natural}
+use Rattle.whole_laws.specs.Whole.{greatest_natural}
 use Rattle.rate_bounds.proofs.lumps.greatest_of.Given as goal
 
 -- the greatest size of the lumps so far

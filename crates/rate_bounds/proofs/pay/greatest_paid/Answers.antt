@@ -1,5 +1,5 @@
 use Rattle.std.proofs.Common.{◌≡◌, ◌^◌, ◌<◌, length, arith, ap, ◌∙◌}
-use Rattle.model_specs.specs.Whole.{list_of, greatest_natural}
+use Rattle.whole_laws.specs.Whole.{list_of, greatest_natural}
 use Rattle.rate_bounds.specs.MonthPay.{plan_named, paid_in_state, greatest_paid}
 use Rattle.rate_bounds.proofs.PaySteps.{greatest_paid_more}
 use Rattle.rate_bounds.proofs.pay.greatest_paid.Goals as goal

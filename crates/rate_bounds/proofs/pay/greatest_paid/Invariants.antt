@@ -1,5 +1,5 @@
 use Rattle.std.proofs.Common.{◌≡◌, ◌^◌, ◌<◌}
-use Rattle.model_specs.specs.Whole.{list_of, greatest_natural}
+use Rattle.whole_laws.specs.Whole.{list_of, greatest_natural}
 use Rattle.rate_bounds.specs.MonthPay.{plan_named, paid_in_state}
 use Rattle.rate_bounds.proofs.pay.greatest_paid.Given as goal
 

@@ -1,5 +1,5 @@
 use Rattle.std.proofs.Common.{◌≡◌}
-use Rattle.model_specs.specs.Whole.{list_of}
+use Rattle.whole_laws.specs.Whole.{list_of}
 use Rattle.model_specs.specs.Ledgers.{radius_forward}
 use Rattle.rate_bounds.proofs.radii.radii_forward.Given as goal
 

@@ -2,7 +2,7 @@ use Rattle.std.proofs.Common.{◌^◌, FitsSigned, arith, rules, ap, ◌∙◌}
 use Rattle.std.specs.Prelude.{unsigned_abs}
 use Rattle.std.specs.Int.{w128}
 use Rattle.std.proofs.lemmas.Int.{to_z-of_z}
-use Rattle.model_specs.specs.Whole.{greatest_whole}
+use Rattle.whole_laws.specs.Whole.{greatest_whole}
 use Rattle.model_specs.specs.MonthNumbers.{curve_numerators}
 use Rattle.rate_bounds.proofs.LeastAndGreatest.{greatest_is_below}
 use Rattle.rate_bounds.proofs.rates.greatest_rate.Goals as goal

@@ -1,7 +1,7 @@
 use Rattle.std.proofs.Common.{FitsSigned, rules, ap, ◌∙◌}
 use Rattle.std.specs.Int.{w128}
 use Rattle.std.proofs.lemmas.Int.{to_z-of_z}
-use Rattle.model_specs.specs.Whole.{least_whole}
+use Rattle.whole_laws.specs.Whole.{least_whole}
 use Rattle.model_specs.specs.MonthNumbers.{curve_numerators}
 use Rattle.rate_bounds.specs.MonthRates.{least_of}
 use Rattle.rate_bounds.proofs.rates.least_of.Goals as goal

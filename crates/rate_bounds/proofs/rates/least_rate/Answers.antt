@@ -1,7 +1,7 @@
 use Rattle.std.proofs.Common.{◌≡◌, length, FitsSigned, arith, rules, ap, sym, ◌∙◌}
 use Rattle.std.specs.Int.{w128}
 use Rattle.std.proofs.lemmas.Int.{to_z-of_z}
-use Rattle.model_specs.specs.Whole.{list_of, least_whole}
+use Rattle.whole_laws.specs.Whole.{list_of, least_whole}
 use Rattle.rate_bounds.specs.MonthRates.{least_of, least_rate}
 use Rattle.rate_bounds.proofs.LeastAndGreatest.{least_more_at}
 use Rattle.rate_bounds.proofs.rates.least_rate.Goals as goal

@@ -1,5 +1,5 @@
 use Rattle.std.proofs.Common.{◌≡◌}
-use Rattle.model_specs.specs.Whole.{list_of, least_whole}
+use Rattle.whole_laws.specs.Whole.{list_of, least_whole}
 use Rattle.rate_bounds.specs.MonthRates.{least_of}
 use Rattle.rate_bounds.proofs.rates.least_rate.Given as goal
 

@@ -2,7 +2,7 @@ use Rattle.std.proofs.Common.{◌^◌, FitsSigned, arith, rules, ap, ◌∙◌}
 use Rattle.std.specs.Prelude.{unsigned_abs}
 use Rattle.std.specs.Int.{w128}
 use Rattle.std.proofs.lemmas.Int.{to_z-of_z}
-use Rattle.model_specs.specs.Whole.{natural_part}
+use Rattle.whole_laws.specs.Whole.{natural_part}
 use Rattle.rate_bounds.specs.MonthRates.{rate_part}
 use Rattle.rate_bounds.proofs.LeastAndGreatest.{size_from_zero, natural_part_is_below}
 use Rattle.rate_bounds.proofs.rates.rate_part.Goals as goal

@@ -1,5 +1,5 @@
 use Rattle.std.proofs.Common.{◌≡◌}
-use Rattle.model_specs.specs.Whole.{list_of, greatest_whole}
+use Rattle.whole_laws.specs.Whole.{list_of, greatest_whole}
 use Rattle.ledger_laws.specs.MonthLaws.{exit_rates}
 use Rattle.rate_bounds.proofs.rates.rho.Given as goal
 

@@ -1,5 +1,5 @@
 use Rattle.std.proofs.Common.{◌≡◌, length, arith, ap, ◌∙◌}
-use Rattle.model_specs.specs.Whole.{list_of, greatest_natural}
+use Rattle.whole_laws.specs.Whole.{list_of, greatest_natural}
 use Rattle.model_specs.specs.Payments.{payment_plan}
 use Rattle.rate_bounds.specs.LedgerSteps.{sum_size_of, greatest_sum_size}
 use Rattle.rate_bounds.proofs.PaySteps.{greatest_paid_more}

@@ -2,7 +2,7 @@ use Rattle.std.proofs.Common.{length, map, ap, sym, subst, ◌∙◌, refl}
 use Rattle.std.specs.Prelude.{All}
 use Rattle.model_specs.specs.RecordRules.{IsWellFormed}
 use Rattle.model_specs.specs.Rows.{tolerance}
-use Rattle.model_specs.specs.Whole.{list_of}
+use Rattle.whole_laws.specs.Whole.{list_of}
 use Rattle.reserve_report.specs.Reports.{row_of}
 use Rattle.reserve_report.specs.TableRows.{row_at}
 use Rattle.reserve_report.proofs.Shapes.{IsSound, rows_of_kind, rows_are_sound}

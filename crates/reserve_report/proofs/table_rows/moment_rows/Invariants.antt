@@ -1,5 +1,5 @@
 use Rattle.std.proofs.Common.{◌≡◌, ◌*◌}
-use Rattle.model_specs.specs.Whole.{list_of}
+use Rattle.whole_laws.specs.Whole.{list_of}
 use Rattle.reserve_report.specs.TableRows.{moment_row_at}
 use Rattle.reserve_report.proofs.table_rows.moment_rows.Given as goal
 

@@ -1,5 +1,5 @@
 use Rattle.std.proofs.Common.{◌≡◌, map}
-use Rattle.model_specs.specs.Whole.{list_of}
+use Rattle.whole_laws.specs.Whole.{list_of}
 use Rattle.state_graph.specs.Exits.{exit_by, exits_of}
 use Rattle.state_graph.proofs.exits.exit_table.Given as goal
 

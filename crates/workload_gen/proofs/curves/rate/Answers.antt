@@ -1,7 +1,7 @@
 use Rattle.std.proofs.Common.{◌≡◌, ◌+◌, ◌*◌, map, refl, ap, ◌∙◌, arith}
 use Rattle.toml.specs.Data.{array}
 use Rattle.toml.specs.View.{view, items_of}
-use Rattle.model_specs.specs.Whole.{list_of}
+use Rattle.whole_laws.specs.Whole.{list_of}
 use Rattle.workload_gen.specs.Draws.{state_after}
 use Rattle.workload_gen.specs.Tree.{piece, coefficients, rate, year_piece}
 use Rattle.workload_gen.proofs.DrawSteps.{state_after-more}

@@ -1,6 +1,6 @@
 use Rattle.std.proofs.Common.{◌≡◌, ◌*◌, map}
 use Rattle.toml.specs.View.{view}
-use Rattle.model_specs.specs.Whole.{list_of}
+use Rattle.whole_laws.specs.Whole.{list_of}
 use Rattle.workload_gen.specs.Draws.{state_after}
 use Rattle.workload_gen.specs.Tree.{year_piece, draws_of_piece}
 use Rattle.workload_gen.proofs.curves.rate.Given as goal

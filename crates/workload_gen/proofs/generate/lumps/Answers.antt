@@ -1,7 +1,7 @@
 use Rattle.std.proofs.Common.{◌≡◌, ap, ◌∙◌, arith}
 use Rattle.toml.specs.Data.{array}
 use Rattle.toml.specs.View.{view, items_of}
-use Rattle.model_specs.specs.Whole.{list_of}
+use Rattle.whole_laws.specs.Whole.{list_of}
 use Rattle.workload_gen.specs.Tree.{lump, lumps}
 use Rattle.workload_gen.proofs.TableViews.{one_place_more}
 use Rattle.workload_gen.proofs.generate.lumps.Goals as goal

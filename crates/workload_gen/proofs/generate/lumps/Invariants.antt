@@ -1,6 +1,6 @@
 use Rattle.std.proofs.Common.{◌≡◌, map}
 use Rattle.toml.specs.View.{view}
-use Rattle.model_specs.specs.Whole.{list_of}
+use Rattle.whole_laws.specs.Whole.{list_of}
 use Rattle.workload_gen.specs.Tree.{lump}
 use Rattle.workload_gen.proofs.generate.lumps.Given as goal
 

@@ -9,8 +9,8 @@ use Rattle.std.proofs.Common.{arith, ap, inl, inr}
 use Rattle.std.proofs.lemmas.Bool.{false≢true, cases_lt}
 use Rattle.std.proofs.lemmas.Int.{ints, clamps}
 use Rattle.std.proofs.lemmas.List.Elements.{All-nil, All-tail, All-head, All-cons, All-map, All-filter}
-use Rattle.model_specs.specs.Whole.{list_of, whole_sum, greatest_whole, least_whole}
-use Rattle.model_specs.specs.Whole.{greatest_natural}
+use Rattle.whole_laws.specs.Whole.{list_of, whole_sum, greatest_whole, least_whole}
+use Rattle.whole_laws.specs.Whole.{greatest_natural}
 
 -- a test of the order that passes
 pub le_from_test : (a b : ℤ) → int_le a b ≡ true → a ≤ℤ b

@@ -5,7 +5,7 @@ use Rattle.std.specs.Prelude.{Option, Some, None, filter_map}
 use Rattle.std.specs.Option.{option_to_list}
 use Rattle.std.specs.List.{cons_option}
 use Rattle.std.proofs.lemmas.List.Elements.{filter_map-append}
-use Rattle.model_specs.specs.Whole.{list_of, places}
+use Rattle.whole_laws.specs.Whole.{list_of, places}
 
 pub list_of-more : {A : Type 0} (n : ℕ) (f : ℕ → A) → list_of (suc n) f ≡ list_of n f ++ f n ∷ []
 list_of-more zero f = refl

@@ -4,7 +4,7 @@ use Rattle.std.specs.Prelude.{Option, Some, None, option_map, unwrap_or, find, f
 use Rattle.std.specs.Prelude.{All, List, [], ◌∷◌, filter, slice_index_or}
 use Rattle.std.specs.List.{cons_option}
 use Rattle.std.proofs.lemmas.List.Elements.{All-nil, All-head, All-tail, All-cons, All-append}
-use Rattle.model_specs.specs.Whole.{last_or}
+use Rattle.whole_laws.specs.Whole.{last_or}
 
 -- the last member that passes a test, or what stands for none
 pub last-has : {A : Type 0} (P : A → Type 0) (test : A → Bool) (xs : List A) (none : A) → P none → All P xs

@@ -1,7 +1,7 @@
 -- What stands at a place of a list that is given by places.
 use Rattle.std.specs.Prelude.{◌≡◌, ℕ, zero, suc, ◌<◌, ◌≤◌, refl, length, slice_index_or}
 use Rattle.std.proofs.Common.{ap, arith}
-use Rattle.model_specs.specs.Whole.{list_of}
+use Rattle.whole_laws.specs.Whole.{list_of}
 
 pub at-list_of : {A : Type 0} (n : ℕ) (f : ℕ → A) (i : ℕ) (d : A) → i < n
     → slice_index_or (list_of n f) i d ≡ f i

@@ -1,0 +1,4 @@
+pub mod Extremes
+pub mod Found
+pub mod ListsByPlace
+pub mod Places

@@ -1,0 +1,2 @@
+//! Whole numbers and lists by place: definitions and laws that speak of nothing else.
+#![tactic(auto)]
