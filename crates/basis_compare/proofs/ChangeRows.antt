@@ -6,10 +6,8 @@ use Rattle.std.proofs.Math.Nat.{mod-lt}
 use Rattle.fixed_interval.specs.declared.tables.Table.{Table}
 use Rattle.fixed_interval.specs.Tables.{IsAnsweredDegree}
 use Rattle.whole_laws.specs.Whole.{list_of}
+use Rattle.whole_laws.proofs.ListsByPlace.{All-list_of, map-list_of, list_of-agree, list_of-next}
 use Rattle.model_specs.specs.Product.{Product}
-use Rattle.cell_bounds.proofs.TableNorms.{list_of-ext}
-use Rattle.product_model.proofs.PlacedLists.{map-list_of, All-list_of}
-use Rattle.state_graph.proofs.ExitSteps.{list_of_more}
 use Rattle.thiele_backward.specs.Results.{AreReserves}
 use Rattle.basis_compare.specs.declared.change_rows.Part.{Part}
 use Rattle.basis_compare.specs.declared.change_rows.Part.TheVariants.{Interest, Rest, Total}
@@ -57,7 +55,7 @@ changes_more a h b place interest rest total old one two new so_far first second
     one_more : (f : ℕ → Change) (k : ℕ) (row : Change) (old new : List Change) → old ≡ list_of k f → row ≡ f k
         → new ≡ old ++ row ∷ [] → new ≡ list_of (k + 1) f
     one_more f k row old new so_far is pushed =
-        pushed ∙ ap (λ rows. rows ++ row ∷ []) so_far ∙ ap (λ r. list_of k f ++ r ∷ []) is ∙ sym (list_of_more k f)
+        pushed ∙ ap (λ rows. rows ++ row ∷ []) so_far ∙ ap (λ r. list_of k f ++ r ∷ []) is ∙ sym (list_of-next k f)
 
     plain : 3 * place + 0 ≡ 3 * place
     plain = omega arith
@@ -123,7 +121,7 @@ pub rows_are_changes : (a b : Product) (every count : ℕ) (old between new : Li
 rows_are_changes a b every count old between new c count_is answered all rows = record {
   degree = answered;
   rows = ap (map subject_of) rows ∙ map-list_of subject_of (3 * count) (change_at old between new)
-      ∙ list_of-ext (3 * count) (λ k. subject_of (change_at old between new k)) (subject_at (length a.states) every)
+      ∙ list_of-agree (3 * count) (λ k. subject_of (change_at old between new k)) (subject_at (length a.states) every)
       (λ k inside. row_is_asked a b c.degree (length a.states) every count old between new k all inside)
       ∙ ap (λ n. list_of (3 * n) (subject_at (length a.states) every)) count_is;
   right = subst (All (IsChange a b c.degree)) (sym rows)

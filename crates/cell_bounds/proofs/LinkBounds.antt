@@ -13,15 +13,16 @@ use Rattle.frac_laws.proofs.Sums.{sum_to_ext, sum_to_mono, sum_to_add, sum_to_sc
 use Rattle.frac_laws.proofs.Sums.{sum_to_exchange, size-sum_to}
 use Rattle.cell_laws.specs.Tame.{one_factor_map}
 use Rattle.whole_laws.specs.Whole.{list_of}
+use Rattle.whole_laws.proofs.ListsByPlace.{list_of-agree}
 use Rattle.model_specs.specs.Cells.{CellCurves}
 use Rattle.model_specs.specs.Systems.{matrix_of, intensity_at, interest_at, leaving_at}
 use Rattle.cell_bounds.specs.CellBounds.{rate_bound, interest_bound, mean_at, of_cell, HasSmallCurves, HasSmallMonth}
-use Rattle.cell_bounds.proofs.TableNorms.{unit_at, links_row, list_of-ext, scale-table, add-table, identity-add}
+use Rattle.cell_bounds.proofs.TableNorms.{unit_at, links_row, scale-table, add-table, identity-add}
 use Rattle.cell_bounds.proofs.CellConstants.{rate_natural}
 
 pub matrix_of-ext : (n : ℕ) (f g : ℕ → ℕ → Fraction) → ((i j : ℕ) → f i j ≡ g i j) → matrix_of n f ≡ matrix_of n g
 matrix_of-ext n f g h =
-    list_of-ext n (λ i. list_of n (f i)) (λ i. list_of n (g i)) (λ i b. list_of-ext n (f i) (g i) (λ j c. h i j))
+    list_of-agree n (λ i. list_of n (f i)) (λ i. list_of n (g i)) (λ i b. list_of-agree n (f i) (g i) (λ j c. h i j))
 
 -- the one-factor map of tables
 pub one_factor-table : (d : ℕ) (matrices : List Matrix) (f : ℕ → ℕ → ℕ → Fraction) (n : ℕ)

@@ -23,12 +23,13 @@ use Rattle.model_specs.specs.Cells.{CellCurves}
 use Rattle.model_specs.specs.Systems.{matrix_of, vector_of, norberg_pair, second_moment_system, coupling_entry}
 use Rattle.model_specs.specs.Systems.{second_payment_at}
 use Rattle.whole_laws.proofs.ListsByPlace.{at-list_of}
+use Rattle.whole_laws.proofs.Members.{at-map}
 use Rattle.cell_bounds.specs.CellBounds.{paid_bound, load_bound, twice_paid_bound, of_cell, HasSmallCurves}
 use Rattle.cell_bounds.specs.CellBounds.{HasSmallMonth, HasSmallPayments, HasSmallSums, CountsGrowth}
 use Rattle.cell_bounds.specs.ScaledSystems.{scaled_pair}
 use Rattle.cell_bounds.proofs.CellConstants.{paid_total, paid_weighted, loads_weighted, twice_paid_total}
 use Rattle.cell_bounds.proofs.CellConstants.{twice_paid_weighted}
-use Rattle.cell_bounds.proofs.TameSystems.{at-map, scaled_norm, backward_tame, thiele_tame}
+use Rattle.cell_bounds.proofs.TameSystems.{scaled_norm, backward_tame, thiele_tame}
 use Rattle.cell_bounds.proofs.SecondBounds.{coupling_by_x, coupling_by_scale, second_by_scale, second_by_x}
 
 -- scaled matrices have scaled norms

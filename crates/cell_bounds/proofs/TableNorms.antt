@@ -20,7 +20,7 @@ use Rattle.frac_laws.proofs.Vectors.{number_at-add_lists}
 use Rattle.frac_laws.proofs.Norms.{number_at-sizes, greatest_below, size_zero}
 use Rattle.whole_laws.specs.Whole.{list_of}
 use Rattle.model_specs.specs.Systems.{matrix_of, where_same}
-use Rattle.whole_laws.proofs.ListsByPlace.{at-list_of, past-list_of}
+use Rattle.whole_laws.proofs.ListsByPlace.{at-list_of, past-list_of, list_of-agree}
 
 -- 1 where two places are one, and else 0
 abbrev pub unit_at : ℕ → ℕ → Fraction
@@ -122,13 +122,6 @@ table_columns n rows f r some h = greatest_below _ some (λ j. elim (cases_lt j 
   | inr b ↦ rw (column_past n rows f j b) some
 ])
 
--- sums and multiples of tables are tables
-pub list_of-ext : {A : Type 0} (n : ℕ) (f g : ℕ → A) → ((i : ℕ) → i < n → f i ≡ g i) → list_of n f ≡ list_of n g
-list_of-ext zero f g h = refl
-list_of-ext (suc n) f g h =
-    ap₂ (λ x xs. x ∷ xs) (h 0 (omega arith))
-    (list_of-ext n (λ i. f (suc i)) (λ i. g (suc i)) (λ i b. h (suc i) (omega arith)))
-
 add-list_of : (n : ℕ) (f g : ℕ → Fraction)
     → add_lists (list_of n f) (list_of n g) ≡ list_of n (λ i. f i +ℚ g i)
 add-list_of zero f g = refl
@@ -153,14 +146,14 @@ pub scale-table : (n : ℕ) (c : Fraction) (f : ℕ → ℕ → Fraction)
     → scale_matrix c (matrix_of n f) ≡ matrix_of n (λ i j. c *ℚ f i j)
 scale-table n c f =
     scale-rows n c (λ i. list_of n (f i))
-    ∙ list_of-ext n (λ i. scale_list c (list_of n (f i))) (λ i. list_of n (λ j. c *ℚ f i j))
+    ∙ list_of-agree n (λ i. scale_list c (list_of n (f i))) (λ i. list_of n (λ j. c *ℚ f i j))
     (λ i b. scale-list_of n c (f i))
 
 pub add-table : (n : ℕ) (f g : ℕ → ℕ → Fraction)
     → add_matrices (matrix_of n f) (matrix_of n g) ≡ matrix_of n (λ i j. f i j +ℚ g i j)
 add-table n f g =
     add-rows n (λ i. list_of n (f i)) (λ i. list_of n (g i))
-    ∙ list_of-ext n (λ i. add_lists (list_of n (f i)) (list_of n (g i))) (λ i. list_of n (λ j. f i j +ℚ g i j))
+    ∙ list_of-agree n (λ i. add_lists (list_of n (f i)) (list_of n (g i))) (λ i. list_of n (λ j. f i j +ℚ g i j))
     (λ i b. add-list_of n (f i) (g i))
 
 -- the identity by rows
@@ -183,7 +176,7 @@ unit_row-add : (n i : ℕ) (f : ℕ → Fraction) → i < n
 unit_row-add zero i f b = absurd (omega arith)
 unit_row-add (suc n) zero f b =
     ap (λ xs. (whole (pos 1) +ℚ f 0) ∷ xs)
-    (list_of-ext n (λ j. f (suc j)) (λ j. whole (pos 0) +ℚ f (suc j))
+    (list_of-agree n (λ j. f (suc j)) (λ j. whole (pos 0) +ℚ f (suc j))
     (λ j c. ring (f (suc j) ∷ []) (hlevel terms) refl))
 unit_row-add (suc n) (suc i) f b =
     ap (λ xs. (whole (pos 0) +ℚ f 0) ∷ xs) (unit_row-add n i (λ j. f (suc j)) (omega arith))
@@ -193,5 +186,5 @@ pub identity-add : (n : ℕ) (f : ℕ → ℕ → Fraction)
 identity-add n f =
     ap (λ a. add_matrices a (matrix_of n f)) (identity-rows n)
     ∙ add-rows n unit_row (λ i. list_of n (f i))
-    ∙ list_of-ext n (λ i. add_lists (unit_row i) (list_of n (f i))) (λ i. list_of n (λ j. unit_at i j +ℚ f i j))
+    ∙ list_of-agree n (λ i. add_lists (unit_row i) (list_of n (f i))) (λ i. list_of n (λ j. unit_at i j +ℚ f i j))
     (λ i b. unit_row-add n i (f i) b)

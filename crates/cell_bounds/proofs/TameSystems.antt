@@ -1,5 +1,5 @@
 -- The systems of a cell whose curves and payments are small are tame.
-use Rattle.std.specs.Prelude.{◌≡◌, ℕ, zero, suc, pos, ◌<◌, map, List, [], ◌∷◌, slice_index_or}
+use Rattle.std.specs.Prelude.{◌≡◌, ℕ, pos, ◌<◌, map, List, [], ◌∷◌}
 use Rattle.std.proofs.Common.{refl, ap, ◌∙◌}
 use Rattle.frac_laws.specs.Fraction.{Fraction, whole, opposite, ◌+ℚ◌, ◌*ℚ◌, ◌≤ℚ◌}
 use Rattle.frac_laws.specs.Sums.{sum_to, power}
@@ -21,6 +21,7 @@ use Rattle.model_specs.specs.Cells.{CellCurves}
 use Rattle.model_specs.specs.Systems.{matrix_of, vector_of, intensity_at, leaving_at, backward_entry, where_same}
 use Rattle.model_specs.specs.Systems.{thiele_system, kolmogorov_system}
 use Rattle.whole_laws.proofs.ListsByPlace.{at-list_of}
+use Rattle.whole_laws.proofs.Members.{at-map}
 use Rattle.cell_bounds.specs.CellBounds.{paid_bound, of_cell, HasSmallCurves, HasSmallMonth, HasSmallPayments}
 use Rattle.cell_bounds.specs.CellBounds.{CountsGrowth}
 use Rattle.cell_bounds.specs.ScaledSystems.{scaled_system}
@@ -30,12 +31,6 @@ use Rattle.cell_bounds.proofs.TameLinks.{link_bound, total_links, weighted_links
 use Rattle.cell_bounds.proofs.TameLinks.{backward-links, forward-links, rows_norm, columns_norm, rows_factor}
 use Rattle.cell_bounds.proofs.TameLinks.{columns_factor}
 use Rattle.cell_bounds.proofs.PaymentBounds.{free_number, free_norm}
-
-pub at-map : {A B : Type 0} (f : A → B) (xs : List A) (i : ℕ) (d : A)
-    → slice_index_or (map f xs) i (f d) ≡ f (slice_index_or xs i d)
-at-map f [] i d = refl
-at-map f (x ∷ xs) zero d = refl
-at-map f (x ∷ xs) (suc i) d = at-map f xs i d
 
 -- scaled free vectors have scaled norms
 pub scaled_norm : (norm : Norm) (c : Fraction) (vs : List Vector) (m : ℕ) → whole (pos 0) ≤ℚ c

@@ -10,11 +10,12 @@ use Rattle.frac_laws.specs.Fraction.{Fraction, over, ◌*ℚ◌}
 use Rattle.frac_laws.specs.Lists.{number_at}
 use Rattle.frac_laws.specs.Polynomials.{all_over}
 use Rattle.frac_laws.proofs.FractionTerms.{ring, terms}
-use Rattle.frac_laws.proofs.Quotients.{over_mul, times_one}
+use Rattle.frac_laws.proofs.Quotients.{over_mul}
 use Rattle.frac_laws.proofs.Vectors.{number_at-scale_list}
 use Rattle.model_specs.specs.Cells.{per_cell, cells_of_32, Backward}
 use Rattle.cell_bounds.specs.ScaledSystems.{scaling}
 use Rattle.cell_coeffs.proofs.Numerators.{at-all_over}
+use Rattle.frac_base.proofs.WholeRing.{mul_one}
 
 two_pow : (g : ℕ) → g ≤ 56 → 2 ^ g ≤ 2 ^ 56
 two_pow g few =
@@ -52,7 +53,7 @@ sum_is n amount g m is =
     ap (λ (p : List Fraction). number_at p m) (sym is) ∙ at-all_over (384 ^ 3) n m in
     ap (λ x. scaling g *ℚ x) here ∙ turned (scaling g) (over z (384 ^ 3))
     ∙ over_mul z (pos 1) (384 ^ 3) (2 ^ g) (omega arith) (omega (arith, pow_pos g))
-    ∙ ap (λ w. over w (384 ^ 3 * 2 ^ g)) (times_one z)
+    ∙ ap (λ w. over w (384 ^ 3 * 2 ^ g)) (mul_one z)
   where
     turned : (h x : Fraction) → h *ℚ x ≡ x *ℚ h
     turned h x = ring (h ∷ x ∷ []) (hlevel terms) refl
@@ -67,9 +68,9 @@ rate_is n amount g m is =
     ap (λ x. scaling g *ℚ x) (number_at-scale_list (over (pos 1) 384) amount m ∙ ap (λ x. over (pos 1) 384 *ℚ x) here)
     ∙ turned (scaling g) (over (pos 1) 384) (over z (384 ^ 3))
     ∙ ap (λ x. x *ℚ scaling g) (over_mul z (pos 1) (384 ^ 3) 384 (omega arith) (omega arith)
-    ∙ ap (λ w. over w (384 ^ 4)) (times_one z))
+    ∙ ap (λ w. over w (384 ^ 4)) (mul_one z))
     ∙ over_mul z (pos 1) (384 ^ 4) (2 ^ g) (omega arith) (omega (arith, pow_pos g))
-    ∙ ap (λ w. over w (384 ^ 4 * 2 ^ g)) (times_one z)
+    ∙ ap (λ w. over w (384 ^ 4 * 2 ^ g)) (mul_one z)
   where
     turned : (h c x : Fraction) → h *ℚ (c *ℚ x) ≡ x *ℚ c *ℚ h
     turned h c x = ring (h ∷ c ∷ x ∷ []) (hlevel terms) refl

@@ -10,13 +10,13 @@ use Rattle.frac_laws.proofs.Norms.{size_zero}
 use Rattle.frac_laws.proofs.Order.{le_trans, le_of_equal}
 use Rattle.frac_laws.proofs.Quotients.{over_is, over_add, whole_mul}
 use Rattle.frac_laws.proofs.Sizes.{size_add, size-opposite}
+use Rattle.frac_laws.proofs.SizeFacts.{size-over, abs_of_size}
+use Rattle.frac_laws.proofs.QuotientFacts.{over-zero}
 use Rattle.linear_system.specs.StandsFor.{units}
 use Rattle.product_cells.proofs.CurveCells.{over_mono}
-use Rattle.product_cells.proofs.ProductCurves.{over_none}
 use Rattle.cell_coeffs.specs.Cut.{cut_of, IsStoredCut}
 use Rattle.cell_coeffs.specs.Near.{IsNear}
-use Rattle.cell_coeffs.proofs.Near.{near_mono, near_add, abs_of_size}
-use Rattle.cell_coeffs.proofs.PaidNear.{size-over}
+use Rattle.cell_coeffs.proofs.Near.{near_mono, near_add}
 
 -- what is cut off is less than a unit
 abbrev rest_of : ℤ → ℤ
@@ -92,7 +92,7 @@ cut_zero x z nothing none = record {
 }
   where
     over_nothing : whole (pos 0) -ℚ units (pos 0) ≡ whole (pos 0)
-    over_nothing = ap (λ y. whole (pos 0) -ℚ y) (over_none (2 ^ 64)) ∙ ring [] (hlevel terms) refl
+    over_nothing = ap (λ y. whole (pos 0) -ℚ y) (over-zero (2 ^ 64)) ∙ ring [] (hlevel terms) refl
 
 -- the size of a number near a small fraction
 pub cut_size : (x : Fraction) (z : ℤ) → IsNear 126 x z → size x ≤ℚ over (pos 1) 256 → unsigned_abs z ≤ 2 ^ 65

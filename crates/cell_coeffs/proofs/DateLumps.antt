@@ -13,7 +13,8 @@ use Rattle.whole_laws.specs.Whole.{list_of, places, greatest_natural}
 use Rattle.model_specs.specs.Product.{Lump}
 use Rattle.model_specs.specs.Payments.{Plan, lump_at, lumps_at}
 use Rattle.std.proofs.lemmas.List.Elements.{All-nil, All-cons}
-use Rattle.whole_laws.proofs.Extremes.{greatest_natural_least, length-list_of}
+use Rattle.whole_laws.proofs.Extremes.{greatest_natural_least}
+use Rattle.whole_laws.proofs.ListsByPlace.{length-list_of}
 use Rattle.cell_coeffs.specs.Lumps.{lump_units, units_to}
 
 -- the units of lumps, one after another

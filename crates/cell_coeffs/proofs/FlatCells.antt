@@ -13,8 +13,10 @@ use Rattle.frac_laws.specs.Lists.{number_at}
 use Rattle.frac_laws.specs.Sums.{sum_to}
 use Rattle.frac_laws.proofs.FractionTerms.{ring, terms}
 use Rattle.frac_laws.proofs.Sums.{sum_to_zeros}
-use Rattle.whole_laws.proofs.Extremes.{both_pass, each_passes, place_of_list, length-list_of}
 use Rattle.whole_laws.specs.Whole.{list_of}
+use Rattle.whole_laws.proofs.Tests.{both_pass}
+use Rattle.whole_laws.proofs.ListsByPlace.{length-list_of, at-list_of}
+use Rattle.whole_laws.proofs.Members.{each_passes}
 use Rattle.model_specs.specs.Curve.{piece_at}
 use Rattle.model_specs.specs.Product.{Product, Transition, transition_at, no_transition}
 use Rattle.model_specs.specs.Payments.{Plan, sojourn_at, sum_at}
@@ -68,13 +70,13 @@ module _ (product : Product) (plan : Plan) (month : ℕ) (constant : IsTrue (is_
   sojourn_constant : (i : ℕ) → i < length product.states → is_constant (sojourn_at plan i month).c ≡ true
   sojourn_constant i b =
       let f : ℕ → List ℤ = λ k. (sojourn_at plan k month).c in
-      ap is_constant (sym (place_of_list (length product.states) f i [] b))
+      ap is_constant (sym (at-list_of (length product.states) f i [] b))
       ∙ each_passes is_constant sojourns in_parts.1.1.0 i [] (rw (length-list_of (length product.states) f) b)
 
   sum_constant : (e : ℕ) → e < length product.transitions → is_constant (sum_at plan e month).c ≡ true
   sum_constant e b =
       let f : ℕ → List ℤ = λ k. (sum_at plan k month).c in
-      ap is_constant (sym (place_of_list (length product.transitions) f e [] b))
+      ap is_constant (sym (at-list_of (length product.transitions) f e [] b))
       ∙ each_passes is_constant sums in_parts.1.1.1 e [] (rw (length-list_of (length product.transitions) f) b)
 
   -- what is found of a transition between two states

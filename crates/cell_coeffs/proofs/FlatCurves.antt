@@ -9,13 +9,13 @@ use Rattle.frac_laws.specs.Lists.{number_at, scale_list}
 use Rattle.frac_laws.specs.Polynomials.{times_linear, shifted, stretched, all_over}
 use Rattle.frac_laws.proofs.FractionTerms.{ring, terms}
 use Rattle.frac_laws.proofs.Vectors.{number_at-add_lists, number_at-scale_list}
-use Rattle.product_cells.proofs.ProductCurves.{over_none}
-use Rattle.whole_laws.proofs.Extremes.{each_passes}
+use Rattle.frac_laws.proofs.QuotientFacts.{over-zero}
 use Rattle.model_specs.specs.Curve.{Piece, piece_at}
 use Rattle.model_specs.specs.Product.{Step}
 use Rattle.model_specs.specs.Cells.{Grid, curve_cell, amount_cell}
 use Rattle.model_specs.specs.Stretches.{is_constant}
-use Rattle.cell_coeffs.proofs.Numerators.{at-all_over, past_end}
+use Rattle.cell_coeffs.proofs.Numerators.{at-all_over}
+use Rattle.whole_laws.proofs.Members.{each_passes, past_end}
 
 -- no number but 0, and none but the first
 abbrev pub IsNone : List Fraction → Type 0
@@ -86,7 +86,7 @@ constant_later (x ∷ xs) constant m = elim (cases_lt m (length xs)) [
 
 over_flat : (d : ℕ) (c : List ℤ) → is_constant c ≡ true → IsFlat (all_over d c)
 over_flat d c constant m =
-    at-all_over d c (suc m) ∙ ap (λ z. over z d) (constant_later c constant m) ∙ over_none d
+    at-all_over d c (suc m) ∙ ap (λ z. over z d) (constant_later c constant m) ∙ over-zero d
 
 -- a curve or a payment of one coefficient is constant in each cell
 pub amount_flat : (grid : Grid) (step : Step) (month cell : ℕ) → is_constant step.c ≡ true

@@ -14,6 +14,7 @@ use Rattle.frac_laws.proofs.Norms.{matrix_norm_natural, number_below_matrix_norm
 use Rattle.frac_laws.proofs.Order.{le_trans, le_of_equal}
 use Rattle.frac_laws.proofs.Sizes.{size-opposite}
 use Rattle.frac_laws.proofs.Sums.{sum_to_zeros, term_le_sum_to}
+use Rattle.frac_laws.proofs.Lengths.{number_at-past}
 use Rattle.cell_laws.specs.Tame.{IsTame, matrix_norm_at}
 use Rattle.model_specs.specs.Curve.{Piece}
 use Rattle.model_specs.specs.Product.{Product, transition_at}
@@ -23,7 +24,6 @@ use Rattle.model_specs.specs.Systems.{intensity_at, leaving_at, kolmogorov_syste
 use Rattle.model_specs.specs.ValuationRules.{IsAdmissible}
 use Rattle.model_laws.proofs.CellEntries.{systems_have_entries}
 use Rattle.model_laws.proofs.CellShapes.{cells_are_quintic}
-use Rattle.model_laws.proofs.CellTables.{number_at-past}
 use Rattle.cell_bounds.proofs.TableNorms.{where_same-is, unit-same, unit-other}
 use Rattle.product_cells.specs.EachCell.{forward_cell}
 use Rattle.product_laws.proofs.ProductTame.{kolmogorov_cells_are_tame}

@@ -13,6 +13,7 @@ use Rattle.product_model.specs.PartLaws.{PairsAgree}
 use Rattle.product_model.specs.Views.{graph_of}
 use Rattle.cell_coeffs.specs.ForwardColumns.{IsMadeForward}
 use Rattle.cell_coeffs.proofs.MadeSystems.{linked}
+use Rattle.whole_laws.proofs.Tests.{same_is}
 
 -- a pair turned round
 abbrev turned : ℕ × ℕ → ℕ × ℕ
@@ -39,9 +40,6 @@ turned_link (edge ∷ edges) i j =
     turned_test true false = refl
     turned_test false true = refl
     turned_test false false = refl
-
-same_is : (n : ℕ) → nat_eq n n ≡ true
-same_is n = grind arith
 
 either_true : (a b : Bool) → b ≡ true → (a || b) ≡ true
 either_true a b is = rw is (grind arith)

@@ -11,12 +11,13 @@ use Rattle.frac_laws.proofs.Linear.{natural}
 use Rattle.frac_laws.proofs.Norms.{size_zero}
 use Rattle.frac_laws.proofs.Order.{le_trans, le_of_equal}
 use Rattle.frac_laws.proofs.Sums.{sum_to_zeros}
+use Rattle.frac_laws.proofs.QuotientFacts.{over-zero}
 use Rattle.model_specs.specs.Product.{Product}
 use Rattle.model_specs.specs.Cells.{CellCurves}
 use Rattle.model_specs.specs.Systems.{intensity_at, leaving_at}
 use Rattle.linear_system.specs.StoredSystem.{StoredSystem, stored_number}
 use Rattle.linear_system.specs.Setting.{HaveSamePlaces}
-use Rattle.product_cells.proofs.ProductCurves.{over_none}
+use Rattle.linear_system.proofs.Made.{place_kept, same_places_then}
 use Rattle.cell_coeffs.specs.Near.{IsNear, IsStored, nearest_of}
 use Rattle.cell_coeffs.specs.Rows.{AddsNear, KeepsOthers}
 use Rattle.cell_coeffs.specs.Writing.{WritesNumbers}
@@ -24,8 +25,7 @@ use Rattle.cell_coeffs.specs.ForwardColumns.{HasFlows, KeepsColumns, IsStoredCol
 use Rattle.cell_coeffs.proofs.Near.{stored_of_near, near_opposite}
 use Rattle.cell_coeffs.proofs.Links.{stored_zero}
 use Rattle.cell_coeffs.proofs.ForwardCells.{leaving-is, flow-is}
-use Rattle.cell_coeffs.proofs.RowSteps.{place_kept, near_enough}
-use Rattle.cell_coeffs.proofs.Writes.{same_places_then}
+use Rattle.cell_coeffs.proofs.RowSteps.{near_enough}
 
 pub made_forward_kept : (product : Product) (old new : StoredSystem) → HaveSamePlaces old new
     → IsMadeForward product old → IsMadeForward product new
@@ -91,7 +91,7 @@ pub leaving_near : (states m : ℕ) (leaving : ℕ → Fraction) (new : List ℤ
 leaving_near states m leaving new few below adds =
     let nothing : slice_index_or (replicate 9 (pos 0)) m (pos 0) ≡ pos 0 = get_or-replicate 9 m (pos 0) (pos 0) below in
     let exact : size (whole (pos 0) -ℚ over (pos 0) (2 ^ 70)) ≡ whole (pos 0) =
-    ap size (ap (λ y. whole (pos 0) -ℚ y) (over_none (2 ^ 70)) ∙ ring [] (hlevel terms) refl) ∙ size_zero in
+    ap size (ap (λ y. whole (pos 0) -ℚ y) (over-zero (2 ^ 70)) ∙ ring [] (hlevel terms) refl) ∙ size_zero in
     let start : IsNear 0 (whole (pos 0)) (slice_index_or (replicate 9 (pos 0)) m (pos 0)) =
     rw nothing (le_trans (le_of_equal exact) (natural 0 (2 ^ 71))) in
     let from_none : whole (pos 0) +ℚ leaving m ≡ leaving m = ring (leaving m ∷ []) (hlevel terms) refl in

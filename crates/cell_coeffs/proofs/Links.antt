@@ -10,11 +10,12 @@ use Rattle.frac_laws.proofs.Norms.{size_zero}
 use Rattle.frac_laws.proofs.Order.{le_trans, le_of_equal}
 use Rattle.linear_system.specs.StandsFor.{units}
 use Rattle.model_specs.specs.Curve.{Piece}
-use Rattle.product_cells.proofs.ProductCurves.{over_none}
 use Rattle.frac_laws.specs.Lists.{number_at}
 use Rattle.frac_laws.proofs.FractionTerms.{ring, terms}
 use Rattle.frac_laws.proofs.Sums.{sum_to_zeros}
+use Rattle.frac_laws.proofs.QuotientFacts.{over-zero}
 use Rattle.whole_laws.specs.Whole.{places}
+use Rattle.whole_laws.proofs.ListsByPlace.{All-list_of}
 use Rattle.model_specs.specs.Product.{Product, Step, transition_at}
 use Rattle.model_specs.specs.Payments.{sum_at}
 use Rattle.model_specs.specs.Cells.{Backward, cells_of_32, curve_cell, amount_cell, transition_between}
@@ -22,7 +23,6 @@ use Rattle.model_specs.specs.Systems.{intensity_at, sum_paid_at, first_payment_a
 use Rattle.payment_plan.specs.declared.pattern.Which.{Which}
 use Rattle.payment_plan.specs.Payments.{plan_of}
 use Rattle.product_model.specs.Views.{payments_of}
-use Rattle.whole_laws.proofs.Extremes.{All-list_of}
 use Rattle.product_cells.proofs.FoundTransitions.{found_has}
 use Rattle.cell_coeffs.specs.Near.{IsNear, IsWithinUnit, IsStored}
 use Rattle.cell_coeffs.specs.Rows.{cell_at, AddsNear, AddsNearTo}
@@ -135,7 +135,7 @@ pub stored_zero : (x : Fraction) (z : ℤ) → x ≡ whole (pos 0) → z ≡ pos
 stored_zero x z nothing none = record {
   near = rw none
       (le_trans (le_of_equal (ap size (ap (λ y. y -ℚ units (pos 0)) nothing
-      ∙ ap (λ y. whole (pos 0) -ℚ y) (over_none (2 ^ 64))
+      ∙ ap (λ y. whole (pos 0) -ℚ y) (over-zero (2 ^ 64))
       ∙ ring [] (hlevel terms) refl) ∙ size_zero)) (natural 1 (2 ^ 64)));
   none = λ is. none;
 }

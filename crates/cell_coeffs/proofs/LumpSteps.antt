@@ -1,15 +1,17 @@
 -- One lump more.
 use Rattle.std.specs.Prelude.{◌≡◌, ℕ, pos, ◌+◌, ◌-◌, ◌*◌, ◌^◌, ◌<◌, ◌≤◌, ℤ, ◌+ℤ◌, ◌*ℤ◌, unsigned_abs, cond}
 use Rattle.std.specs.Prelude.{nat_eq, List, length, slice_index_or}
-use Rattle.std.proofs.Common.{ap, sym, subst, true, ◌∙◌, arith, add-one, inl, inr, set, FitsSigned}
+use Rattle.std.proofs.Common.{ap, sym, subst, ◌∙◌, arith, add-one, inl, inr, set, FitsSigned}
 use Rattle.std.specs.Int.{w128}
 use Rattle.std.proofs.Math.Nat.{mul-le-mul_right}
 use Rattle.std.proofs.Math.IntN.{+ℤ_assoc, +ℤ_idr}
 use Rattle.std.proofs.lemmas.Nat.{pow-add}
-use Rattle.std.proofs.lemmas.Int.{ints, unsigned_abs-mul, fits_signed_from_abs}
+use Rattle.std.proofs.lemmas.Int.{unsigned_abs-mul, fits_signed_from_abs}
 use Rattle.std.proofs.lemmas.Bool.Decides.{eqb_tells}
 use Rattle.std.proofs.lemmas.List.{get_or-set_other, get_or-set_same}
 use Rattle.cell_coeffs.specs.Lumps.{units_to}
+use Rattle.whole_laws.proofs.Tests.{same_is}
+use Rattle.whole_laws.proofs.Numbers.{size_of_sum}
 
 -- a lump in units is at most 2^64 in size
 pub lump_size : (a : ℤ) (g : ℕ) → g ≤ 56 → unsigned_abs a ≤ 2 ^ g → unsigned_abs (a *ℤ pos (2 ^ (64 - g))) ≤ 2 ^ 64
@@ -17,9 +19,6 @@ lump_size a g few small =
     let sum : g + (64 - g) ≡ 64 = omega arith in
     let whole : 2 ^ g * 2 ^ (64 - g) ≡ 2 ^ 64 = sym (pow-add 2 g (64 - g)) ∙ ap (λ k. 2 ^ k) sum in
     rw (unsigned_abs-mul a (pos (2 ^ (64 - g)))) (omega (arith, mul-le-mul_right (2 ^ (64 - g)) small, whole))
-
-size_of_sum : (s t : ℤ) → unsigned_abs (s +ℤ t) ≤ unsigned_abs s + unsigned_abs t
-size_of_sum s t = grind (arith, ints)
 
 pub grown_size : (s t : ℤ) (k : ℕ) → unsigned_abs s ≤ 2 ^ 65 + k * 2 ^ 64 → unsigned_abs t ≤ 2 ^ 64
     → unsigned_abs (s +ℤ t) ≤ 2 ^ 65 + (k + 1) * 2 ^ 64
@@ -30,9 +29,6 @@ grown_fits s k few size = fits_signed_from_abs w128 s (omega (arith, size, few))
 
 pub term_fits : (t : ℤ) → unsigned_abs t ≤ 2 ^ 64 → FitsSigned w128 t
 term_fits t size = fits_signed_from_abs w128 t (omega (arith, size))
-
-same_is : (n : ℕ) → nat_eq n n ≡ true
-same_is n = grind arith
 
 module _ (mid old : List ℤ) (g k j : ℕ) (a : ℤ) (lumps : List (ℕ × ℤ)) (inside : j < length mid)
     (is : slice_index_or lumps k (0, pos 0) ≡ (j, a)) where

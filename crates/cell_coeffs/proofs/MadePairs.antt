@@ -8,6 +8,7 @@ use Rattle.std.proofs.lemmas.Bool.Decides.{eqb_tells}
 use Rattle.std.proofs.lemmas.List.{length-map}
 use Rattle.model_specs.specs.Product.{Product, Transition, transition_at}
 use Rattle.whole_laws.specs.Whole.{places}
+use Rattle.whole_laws.proofs.Tests.{same_is, same_numbers, both_pass}
 use Rattle.model_specs.specs.Cells.{transition_between}
 use Rattle.linear_system.specs.StoredSystem.{StoredSystem}
 use Rattle.linear_system.specs.Setting.{IsMadeFor, HasPlace, is_link, may_hold}
@@ -17,8 +18,7 @@ use Rattle.state_graph.specs.StateGraphs.{edge_at}
 use Rattle.cell_coeffs.specs.PairPlaces.{IsOneWay, KeepsLinks, HasPairLinks, HasOwnLinks, HasMomentLinks}
 use Rattle.cell_coeffs.specs.PairRows.{IsMadeForMoments}
 use Rattle.cell_coeffs.proofs.Links.{found_inside}
-use Rattle.cell_coeffs.proofs.MadeSystems.{found_passes, either_true, same_is}
-use Rattle.cell_coeffs.proofs.RowSteps.{both_true, same_numbers}
+use Rattle.cell_coeffs.proofs.MadeSystems.{found_passes, either_true}
 
 -- ---- one link more
 
@@ -158,7 +158,7 @@ moment_links_of product count old new pairs all has keeps only own = record {
         length-map product.transitions (λ (t : Transition). (t.from, t.to)) in
         let passes = found_passes (λ k. ((transition_at product k).from == i) && ((transition_at product k).to == j))
         (places (length product.transitions)) e is in
-        let both = both_true _ _ passes in
+        let both = both_pass _ _ passes in
         let from = same_numbers (transition_at product e).from i both.0 in
         let to = same_numbers (transition_at product e).to j both.1 in
         let few : e < count = omega (arith, all, long, found_inside product i j e is) in

@@ -6,6 +6,8 @@ use Rattle.std.proofs.lemmas.List.{length-map}
 use Rattle.std.proofs.lemmas.List.Folds.{list_any_at}
 use Rattle.model_specs.specs.Product.{Product, Transition, transition_at}
 use Rattle.whole_laws.specs.Whole.{places}
+use Rattle.whole_laws.proofs.Tests.{same_is}
+use Rattle.whole_laws.proofs.Found.{found_by}
 use Rattle.model_specs.specs.Cells.{transition_between}
 use Rattle.linear_system.specs.StoredSystem.{StoredSystem}
 use Rattle.linear_system.specs.Setting.{IsMadeFor, is_link}
@@ -13,10 +15,6 @@ use Rattle.product_model.specs.PartLaws.{PairsAgree}
 use Rattle.product_model.specs.Views.{graph_of}
 use Rattle.cell_coeffs.specs.Rows.{IsMadeForFirst}
 use Rattle.cell_coeffs.proofs.Links.{found_inside}
-use Rattle.cell_coeffs.proofs.RowSteps.{found_by}
-
-pub same_is : (n : ℕ) → nat_eq n n ≡ true
-same_is n = grind arith
 
 pub either_true : (a b : Bool) → b ≡ true → (a || b) ≡ true
 either_true a b is = rw is (grind arith)

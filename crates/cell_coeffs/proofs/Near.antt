@@ -1,5 +1,5 @@
 -- Numbers near fractions: floors, sums, opposites, and what is stored of them.
-use Rattle.std.specs.Prelude.{◌≡◌, ℕ, pos, negsuc, ◌+◌, ◌-◌, ◌^◌, ◌≤◌, ℤ, ◌+ℤ◌, ◌*ℤ◌, ◌≤ℤ◌, neg_ℤ, unsigned_abs}
+use Rattle.std.specs.Prelude.{◌≡◌, ℕ, pos, negsuc, ◌+◌, ◌-◌, ◌^◌, ◌≤◌, ℤ, ◌+ℤ◌, ◌*ℤ◌, neg_ℤ, unsigned_abs}
 use Rattle.std.specs.Prelude.{[], ◌∷◌}
 use Rattle.std.proofs.Common.{refl, ap, sym, ◌∙◌, arith}
 use Rattle.std.proofs.lemmas.Int.{ints}
@@ -9,13 +9,13 @@ use Rattle.frac_laws.proofs.FractionTerms.{ring, terms}
 use Rattle.frac_laws.proofs.Linear.{linear, claims, natural, ◌⊞◌, ◌⊠◌, ◌·◌}
 use Rattle.frac_laws.proofs.Order.{le_trans, le_of_equal, le_of_lt}
 use Rattle.frac_laws.proofs.Floors.{floor_le, lt_next}
-use Rattle.frac_laws.proofs.Quotients.{over_is, over_mul, over_add, over-opposite, times_one, inverse, whole_mul}
-use Rattle.frac_laws.proofs.Quotients.{cross_of_over_le, whole_le}
+use Rattle.frac_laws.proofs.Quotients.{over_is, over_mul, over_add, over-opposite, inverse, whole_mul}
+use Rattle.frac_laws.proofs.Quotients.{whole_le}
 use Rattle.frac_laws.proofs.Sizes.{size_le_of_between, le_of_size_le, opposite_le_of_size_le, size_add, size-opposite}
-use Rattle.frac_laws.proofs.Sizes.{opposite_le_size}
-use Rattle.frac_laws.proofs.WholeProducts.{product_le_cancel}
+use Rattle.frac_laws.proofs.SizeFacts.{abs_of_size}
 use Rattle.linear_system.specs.StandsFor.{units}
 use Rattle.cell_coeffs.specs.Near.{IsNear, IsWithinUnit, IsStored, nearest_of}
+use Rattle.frac_base.proofs.WholeRing.{mul_one}
 
 floor_gap_low : (part f one u : Fraction) → f ≤ℚ part *ℚ one → one *ℚ u ≡ whole (pos 1) → whole (pos 0) ≤ℚ u
     → f *ℚ u ≤ℚ part
@@ -47,18 +47,6 @@ floor_near units z d many some =
     (inverse units many) (natural 1 units) in
     rw stored (size_le_of_between
     (linear (over z d ∷ whole f ∷ unit ∷ []) (low ⊞ natural 1 units) (hlevel claims) refl) high)
-
--- a number of a size over a denominator has a numerator of that size
-pub abs_of_size : (z : ℤ) (a d : ℕ) → 1 ≤ d → size (over z d) ≤ℚ over (pos a) d → unsigned_abs z ≤ a
-abs_of_size z a d some most =
-    let high = product_le_cancel z (pos a) d some (cross_of_over_le z (pos a) d d some some (le_of_size_le most)) in
-    let low = product_le_cancel (neg_ℤ z) (pos a) d some (cross_of_over_le (neg_ℤ z) (pos a) d d some some
-    (le_trans (le_of_equal (over-opposite z d)) (le_trans (opposite_le_size (over z d)) most))) in
-    both z a high low
-  where
-    both : (z : ℤ) (a : ℕ) → z ≤ℤ pos a → neg_ℤ z ≤ℤ pos a → unsigned_abs z ≤ a
-    both (pos n) a high low = omega (arith, ints, high)
-    both (negsuc n) a high low = omega (arith, ints, low)
 
 -- sums and opposites
 half_units : (k : ℕ) → over (pos k) (2 ^ 71) ≡ whole (pos k) *ℚ over (pos 1) (2 ^ 71)
@@ -111,7 +99,7 @@ stored_near k x z few near =
     let q = over z 64 in
     let f = nearest_of z in
     let fine : over z (2 ^ 70) ≡ q *ℚ u =
-    ap (λ w. over w (2 ^ 70)) (sym (times_one z)) ∙ sym (over_mul z (pos 1) 64 (2 ^ 64) (omega arith) (omega arith)) in
+    ap (λ w. over w (2 ^ 70)) (sym (mul_one z)) ∙ sym (over_mul z (pos 1) 64 (2 ^ 64) (omega arith) (omega arith)) in
     let half : over (z +ℤ pos 32) 64 ≡ q +ℚ over (pos 32) 64 = over_add z (pos 32) 64 in
     let below = le_trans (floor_le (z +ℤ pos 32) 64 (omega arith)) (le_of_equal half) in
     let above = le_trans (le_of_equal (sym half)) (le_of_lt (lt_next (z +ℤ pos 32) 64 (omega arith))) in

@@ -14,14 +14,15 @@ use Rattle.frac_laws.proofs.Order.{le_trans, le_of_equal}
 use Rattle.frac_laws.proofs.Norms.{size_zero}
 use Rattle.frac_laws.proofs.Quotients.{cross_of_over_le, over-opposite}
 use Rattle.frac_laws.proofs.Sizes.{le_of_size_le, opposite_le_size}
-use Rattle.product_cells.proofs.ProductCurves.{over_none}
+use Rattle.frac_laws.proofs.QuotientFacts.{over-zero}
 use Rattle.linear_system.specs.StandsFor.{units}
 use Rattle.cell_coeffs.specs.Near.{IsNear, IsWithinUnit}
 use Rattle.cell_coeffs.proofs.Near.{floor_near}
+use Rattle.whole_laws.proofs.Members.{past_end}
 
 -- the number at a place of whole numbers over one denominator
 pub at-all_over : (d : ℕ) (ns : List ℤ) (m : ℕ) → number_at (all_over d ns) m ≡ over (slice_index_or ns m (pos 0)) d
-at-all_over d [] m = sym (over_none d)
+at-all_over d [] m = sym (over-zero d)
 at-all_over d (n ∷ ns) zero = refl
 at-all_over d (n ∷ ns) (suc m) = at-all_over d ns m
 
@@ -42,11 +43,6 @@ one : (z : ℤ) (d : ℕ) → (z *ℤ pos 1) ≤ℤ (pos 1 *ℤ pos d) → (neg_
     → pos (unsigned_abs z) ≤ℤ pos d
 one (pos n) d high low = omega (arith, ints, high)
 one (negsuc n) d high low = omega (arith, ints, low)
-
-pub past_end : (ns : List ℤ) (k : ℕ) → length ns ≤ k → slice_index_or ns k (pos 0) ≡ pos 0
-past_end [] k past = refl
-past_end (z ∷ ns) zero past = absurd (omega arith)
-past_end (z ∷ ns) (suc k) past = past_end ns k (omega arith)
 
 module _ (x : ℕ → Fraction) (n numbers : List ℤ) (d : ℕ) (some : 1 ≤ d)
     (are : (m : ℕ) → x m ≡ over (slice_index_or n m (pos 0)) d) where
@@ -71,8 +67,8 @@ module _ (x : ℕ → Fraction) (n numbers : List ℤ) (d : ℕ) (some : 1 ≤ d
   past_zero units m past none =
       let gone : slice_index_or n m (pos 0) ≡ pos 0 = past_end n m past in
       let nothing : x m -ℚ over (slice_index_or numbers m (pos 0)) units ≡ whole (pos 0) =
-      ap (λ y. y -ℚ over (slice_index_or numbers m (pos 0)) units) (are m ∙ ap (λ z. over z d) gone ∙ over_none d)
-      ∙ ap (λ z. whole (pos 0) -ℚ over z units) none ∙ ap (λ y. whole (pos 0) -ℚ y) (over_none units)
+      ap (λ y. y -ℚ over (slice_index_or numbers m (pos 0)) units) (are m ∙ ap (λ z. over z d) gone ∙ over-zero d)
+      ∙ ap (λ z. whole (pos 0) -ℚ over z units) none ∙ ap (λ y. whole (pos 0) -ℚ y) (over-zero units)
       ∙ ring [] (hlevel terms) refl in
       le_trans (le_of_equal (ap size nothing ∙ size_zero)) (natural 1 units)
 

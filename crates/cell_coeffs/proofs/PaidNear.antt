@@ -1,5 +1,5 @@
 -- What a transition pays is near the sum of products that is computed.
-use Rattle.std.specs.Prelude.{◌≡◌, ℕ, zero, suc, pos, negsuc, ◌+◌, ◌-◌, ◌^◌, ◌<◌, ℤ, ◌*ℤ◌}
+use Rattle.std.specs.Prelude.{◌≡◌, ℕ, zero, suc, pos, ◌+◌, ◌-◌, ◌^◌, ◌<◌, ℤ, ◌*ℤ◌}
 use Rattle.std.specs.Prelude.{unsigned_abs, List, [], ◌∷◌, slice_index_or}
 use Rattle.std.proofs.Common.{refl, ap, sym, ◌∙◌, arith, add-one}
 use Rattle.std.proofs.lemmas.Int.{ints}
@@ -11,16 +11,18 @@ use Rattle.frac_laws.proofs.FractionTerms.{ring, terms}
 use Rattle.frac_laws.proofs.Linear.{linear, claims, natural, ◌⊞◌, ◌⊠◌, ◌·◌}
 use Rattle.frac_laws.proofs.Order.{le_trans, le_of_equal, le_of_lt, add_mono}
 use Rattle.frac_laws.proofs.Floors.{floor_le, lt_next}
-use Rattle.frac_laws.proofs.Quotients.{over_is, over_mul, over_add, over-opposite, times_one, cross_of_over_le}
-use Rattle.product_cells.proofs.ProductCurves.{over_none}
+use Rattle.frac_laws.proofs.Quotients.{over_is, over_mul, over_add, cross_of_over_le}
 use mathlib.Core.Path.{ap₂}
-use Rattle.frac_laws.proofs.Sizes.{size_add, size_mul, size-opposite, size_natural, size_of_natural}
+use Rattle.frac_laws.proofs.Sizes.{size_add, size_mul, size-opposite, size_natural}
 use Rattle.frac_laws.proofs.Sizes.{size_le_of_between, le_of_size_le, opposite_le_of_size_le}
 use Rattle.frac_laws.proofs.Sums.{sum_to_mono, sum_to_scale, sum_to_sub, size-sum_to}
 use Rattle.frac_laws.proofs.Sums.{sum_to_ext}
+use Rattle.frac_laws.proofs.SizeFacts.{size-over}
+use Rattle.frac_laws.proofs.QuotientFacts.{over-zero}
 use Rattle.cell_bounds.specs.CellBounds.{rate_bound, load_bound}
 use Rattle.cell_coeffs.specs.Near.{IsNear, IsWithinUnit}
 use Rattle.cell_coeffs.specs.Products.{products_to, sizes_to}
+use Rattle.frac_base.proofs.WholeRing.{mul_one}
 
 abbrev pub fine_unit : Fraction
 fine_unit = over (pos 1) (2 ^ 70)
@@ -69,16 +71,11 @@ rates_total : sum_to 9 (λ a. over (pos 1) 192 *ℚ rate_bound a +ℚ fine_unit)
 unfolding ◌+ℚ◌ ◌*ℚ◌ ◌-ℚ◌ opposite is_not_negative
 rates_total = record { le = refl }
 
-pub size-over : (z : ℤ) (d : ℕ) → size (over z d) ≡ over (pos (unsigned_abs z)) d
-size-over (pos n) d = size_of_natural (natural n d)
-size-over (negsuc n) d = sym (size-opposite (over (negsuc n) d)) ∙ ap size (sym (over-opposite (negsuc n) d))
-    ∙ size_of_natural (natural (suc n) d)
-
 -- the computed sum as a fraction
 pub products-are : (rates sums : List ℤ) (m k : ℕ) → over (products_to rates sums m k) (2 ^ 134)
     ≡ sum_to k (λ a. over (slice_index_or rates a (pos 0)) (2 ^ 70)
     *ℚ over (slice_index_or sums (m - a) (pos 0)) (2 ^ 64))
-products-are rates sums m zero = over_none (2 ^ 134)
+products-are rates sums m zero = over-zero (2 ^ 134)
 products-are rates sums m (suc k) =
     over_add (products_to rates sums m k) (slice_index_or rates k (pos 0) *ℤ slice_index_or sums (m - k) (pos 0))
     (2 ^ 134)
@@ -130,7 +127,7 @@ module _ (rate sum : ℕ → Fraction) (h : Fraction) (rates sums : List ℤ)
       let close : size (h *ℚ convolution rate sum m -ℚ over p (2 ^ 134)) ≤ℚ over (pos 3) (2 ^ 71) =
       le_trans (le_of_equal (ap size (off-is m))) (off_small m few) in
       let whole_is : over p (2 ^ 134) ≡ q *ℚ fine_unit =
-      ap (λ w. over w (2 ^ 134)) (sym (times_one p))
+      ap (λ w. over w (2 ^ 134)) (sym (mul_one p))
       ∙ sym (over_mul p (pos 1) (2 ^ 64) (2 ^ 70) (omega arith) (omega arith)) in
       let stored : over f (2 ^ 70) ≡ whole f *ℚ fine_unit = over_is f (2 ^ 70) in
       let x = h *ℚ convolution rate sum m in
@@ -154,7 +151,7 @@ module _ (rate sum : ℕ → Fraction) (h : Fraction) (rates sums : List ℤ)
   rate_sizes k = sum_to k (λ a. over (pos 1) 192 *ℚ rate_bound a +ℚ fine_unit)
 
   sizes_within : (k : ℕ) → over (pos (sizes_to rates k)) (2 ^ 70) ≤ℚ rate_sizes k
-  sizes_within zero = le_of_equal (over_none (2 ^ 70))
+  sizes_within zero = le_of_equal (over-zero (2 ^ 70))
   sizes_within (suc k) =
       let r = slice_index_or rates k (pos 0) in
       let here : over (pos (unsigned_abs r)) (2 ^ 70) ≤ℚ over (pos 1) 192 *ℚ rate_bound k +ℚ fine_unit =

@@ -12,15 +12,17 @@ use Rattle.frac_laws.proofs.FractionTerms.{ring, terms}
 use Rattle.frac_laws.proofs.Linear.{linear, claims, natural, ◌⊞◌, ◌⊠◌, ◌·◌}
 use Rattle.frac_laws.proofs.Order.{le_trans, le_of_equal, le_of_lt, add_mono, mul_mono}
 use Rattle.frac_laws.proofs.Floors.{floor_le, lt_next}
-use Rattle.frac_laws.proofs.Quotients.{over_is, over_mul, over_add, times_one, cross_of_over_le}
-use Rattle.product_cells.proofs.ProductCurves.{over_none}
+use Rattle.frac_laws.proofs.Quotients.{over_is, over_mul, over_add, cross_of_over_le}
 use Rattle.frac_laws.proofs.Sizes.{size_add, size_mul, size-opposite, size_natural}
 use Rattle.frac_laws.proofs.Sizes.{size_le_of_between, le_of_size_le, opposite_le_of_size_le}
 use Rattle.frac_laws.proofs.Sums.{sum_to_mono, sum_to_scale, sum_to_sub, size-sum_to, sum_to_ext}
+use Rattle.frac_laws.proofs.SizeFacts.{size-over}
+use Rattle.frac_laws.proofs.QuotientFacts.{over-zero}
 use Rattle.cell_bounds.specs.CellBounds.{rate_bound, load_bound, paid_bound}
 use Rattle.cell_coeffs.specs.Near.{IsNear, IsWithinUnit}
 use Rattle.cell_coeffs.specs.Products.{products_to, sizes_to}
-use Rattle.cell_coeffs.proofs.PaidNear.{fine_unit, unit, size-over, products-are}
+use Rattle.cell_coeffs.proofs.PaidNear.{fine_unit, unit, products-are}
+use Rattle.frac_base.proofs.WholeRing.{mul_one}
 
 -- five halves of a fine unit
 abbrev off_by : Fraction
@@ -142,7 +144,7 @@ module _ (rate sum : ℕ → Fraction) (h : Fraction) (payments sums : List ℤ)
       let close : size (x -ℚ over p (2 ^ 134)) ≤ℚ over (pos 7) (2 ^ 71) =
       le_trans (le_of_equal (ap size (off-is m))) (off_small m few) in
       let whole_is : over p (2 ^ 134) ≡ q *ℚ fine_unit =
-      ap (λ w. over w (2 ^ 134)) (sym (times_one p))
+      ap (λ w. over w (2 ^ 134)) (sym (mul_one p))
       ∙ sym (over_mul p (pos 1) (2 ^ 64) (2 ^ 70) (omega arith) (omega arith)) in
       let stored : over f (2 ^ 70) ≡ whole f *ℚ fine_unit = over_is f (2 ^ 70) in
       rw (add-one, stored) (size_le_of_between
@@ -163,7 +165,7 @@ module _ (rate sum : ℕ → Fraction) (h : Fraction) (payments sums : List ℤ)
   -- the sizes of the payments together
   sizes_within : (k : ℕ) → over (pos (sizes_to payments k)) (2 ^ 70)
       ≤ℚ sum_to k (λ a. over (pos 1) 192 *ℚ paid_bound a +ℚ off_by)
-  sizes_within zero = le_of_equal (over_none (2 ^ 70))
+  sizes_within zero = le_of_equal (over-zero (2 ^ 70))
   sizes_within (suc k) =
       let r = slice_index_or payments k (pos 0) in
       let here : over (pos (unsigned_abs r)) (2 ^ 70) ≤ℚ over (pos 1) 192 *ℚ paid_bound k +ℚ off_by =

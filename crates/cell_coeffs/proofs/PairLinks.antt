@@ -11,13 +11,14 @@ use Rattle.frac_laws.proofs.Linear.{natural}
 use Rattle.frac_laws.proofs.Norms.{size_zero}
 use Rattle.frac_laws.proofs.Order.{le_trans, le_of_equal}
 use Rattle.frac_laws.proofs.Sums.{sum_to_zeros}
-use Rattle.product_cells.proofs.ProductCurves.{over_none}
+use Rattle.frac_laws.proofs.QuotientFacts.{over-zero}
 use Rattle.model_specs.specs.Product.{Product}
 use Rattle.model_specs.specs.Cells.{CellCurves, transition_between}
 use Rattle.model_specs.specs.Systems.{intensity_at, sum_paid_at, first_payment_at, second_payment_at}
 use Rattle.payment_plan.specs.declared.pattern.Which.{Which}
 use Rattle.linear_system.specs.StoredSystem.{StoredSystem, stored_number}
 use Rattle.linear_system.specs.Setting.{HasPlace}
+use Rattle.linear_system.proofs.Made.{same_places_then}
 use Rattle.cell_coeffs.specs.Near.{IsNear, IsStored, nearest_of}
 use Rattle.cell_coeffs.specs.Cut.{cut_of, IsStoredCut}
 use Rattle.cell_coeffs.specs.PairRows.{IsSmallPair, IsReadLink, KeepsOtherColumns}
@@ -29,7 +30,6 @@ use Rattle.cell_coeffs.proofs.Links.{intensity-none, stored_zero}
 use Rattle.cell_coeffs.proofs.Near.{stored_of_near}
 use Rattle.cell_coeffs.proofs.PaidNear.{paid_near, rates_fit}
 use Rattle.cell_coeffs.proofs.PaidTwice.{twice_near, payments_fit}
-use Rattle.cell_coeffs.proofs.Writes.{same_places_then}
 
 -- past the eighth power nothing is paid
 pub paid_late : (cell : CellCurves) (h : Fraction) → IsSmallPair cell h → (i j m : ℕ) → 9 ≤ m
@@ -54,7 +54,7 @@ zero_near k x z nothing none =
     rw (nothing, none) (le_trans (le_of_equal (ap size gone ∙ size_zero)) (natural k (2 ^ 71)))
   where
     gone : whole (pos 0) -ℚ over (pos 0) (2 ^ 70) ≡ whole (pos 0)
-    gone = ap (λ y. whole (pos 0) -ℚ y) (over_none (2 ^ 70)) ∙ ring [] (hlevel terms) refl
+    gone = ap (λ y. whole (pos 0) -ℚ y) (over-zero (2 ^ 70)) ∙ ring [] (hlevel terms) refl
 
 -- a link that was read, and what it pays, computed
 module _ (cell : CellCurves) (h : Fraction) (i j : ℕ) (rates sums payments : List ℤ)

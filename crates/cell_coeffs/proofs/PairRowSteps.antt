@@ -12,7 +12,7 @@ use Rattle.frac_laws.proofs.Linear.{natural}
 use Rattle.frac_laws.proofs.Norms.{size_zero}
 use Rattle.frac_laws.proofs.Order.{le_trans, le_of_equal}
 use Rattle.frac_laws.proofs.Sums.{sum_to_zeros}
-use Rattle.product_cells.proofs.ProductCurves.{over_none}
+use Rattle.frac_laws.proofs.QuotientFacts.{over-zero}
 use Rattle.model_specs.specs.Product.{Product}
 use Rattle.model_specs.specs.Cells.{CellCurves}
 use Rattle.model_specs.specs.Systems.{intensity_at, interest_at, leaving_at, sojourn_rate_at, first_payment_at}
@@ -20,6 +20,7 @@ use Rattle.model_specs.specs.Systems.{second_payment_at, backward_entry, couplin
 use Rattle.cell_bounds.proofs.TableNorms.{where_same-is, unit-same, unit-other}
 use Rattle.linear_system.specs.StoredSystem.{StoredSystem, dim_of, stored_number, stored_free}
 use Rattle.linear_system.specs.Setting.{HaveSamePlaces}
+use Rattle.linear_system.proofs.Made.{place_kept, same_places_then}
 use Rattle.cell_coeffs.specs.Near.{IsNear, IsStored, nearest_of}
 use Rattle.cell_coeffs.specs.Cut.{cut_of, IsStoredCut}
 use Rattle.cell_coeffs.specs.PairRows.{IsSmallPair, IsMadeForMoments, KeepsOtherColumns, HasSecondLinks}
@@ -31,8 +32,7 @@ use Rattle.cell_coeffs.proofs.Cut.{stored_cut, stored_twice}
 use Rattle.cell_coeffs.proofs.Links.{stored_zero}
 use Rattle.cell_coeffs.proofs.Near.{stored_of_near, near_opposite, near_mono, near_add}
 use Rattle.cell_coeffs.proofs.PairLinks.{paid_late}
-use Rattle.cell_coeffs.proofs.RowSteps.{place_kept, near_enough}
-use Rattle.cell_coeffs.proofs.Writes.{same_places_then}
+use Rattle.cell_coeffs.proofs.RowSteps.{near_enough}
 
 -- ---- places
 
@@ -358,4 +358,4 @@ second_free_near states m paid old new few low nothing adds =
     subst (λ x. IsNear 126 x (slice_index_or new m (pos 0))) same enough
   where
     gone : whole (pos 0) -ℚ over (pos 0) (2 ^ 70) ≡ whole (pos 0)
-    gone = ap (λ y. whole (pos 0) -ℚ y) (over_none (2 ^ 70)) ∙ ring [] (hlevel terms) refl
+    gone = ap (λ y. whole (pos 0) -ℚ y) (over-zero (2 ^ 70)) ∙ ring [] (hlevel terms) refl

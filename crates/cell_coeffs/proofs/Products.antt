@@ -7,9 +7,7 @@ use Rattle.std.specs.Int.{w128, int_shr}
 use Rattle.std.proofs.Math.Nat.{mul-le-mul_left}
 use Rattle.std.proofs.lemmas.Int.{ints, unsigned_abs-mul, fits_signed_from_abs}
 use Rattle.cell_coeffs.specs.Products.{products_to, sizes_to}
-
-size_of_sum : (s t : ℤ) → unsigned_abs (s +ℤ t) ≤ unsigned_abs s + unsigned_abs t
-size_of_sum s t = grind (arith, ints)
+use Rattle.whole_laws.proofs.Numbers.{size_of_sum}
 
 pub size_of_opposite : (z : ℤ) → unsigned_abs (neg_ℤ z) ≡ unsigned_abs z
 size_of_opposite z = grind (arith, ints)

@@ -1,10 +1,9 @@
 -- A row, transition by transition.
-use Rattle.std.specs.Prelude.{◌≡◌, ◌≢◌, ℕ, pos, ◌+◌, ◌<◌, ◌≤◌, ◌==◌, ◌&&◌, ℤ, Bool, true, false, cond}
-use Rattle.std.specs.Prelude.{Option, Some, None, find, All, List, [], ◌∷◌, length, slice_index_or}
-use Rattle.std.proofs.Common.{refl, ap, sym, subst, ◌∙◌, arith, ◌⊎◌, inl, inr}
-use Rattle.std.proofs.lemmas.Bool.{false≢true, cases_lt}
+use Rattle.std.specs.Prelude.{◌≡◌, ◌≢◌, ℕ, pos, ◌+◌, ◌<◌, ◌≤◌, ◌==◌, ◌&&◌, ℤ, true}
+use Rattle.std.specs.Prelude.{Option, Some, None, List, [], ◌∷◌, length, slice_index_or}
+use Rattle.std.proofs.Common.{refl, ap, sym, ◌∙◌, arith, ◌⊎◌, inl, inr}
+use Rattle.std.proofs.lemmas.Bool.{cases_lt}
 use Rattle.std.proofs.lemmas.Bool.Decides.{eqb_tells}
-use Rattle.std.proofs.lemmas.List.Elements.{All-head, All-tail}
 use Rattle.frac_laws.specs.Fraction.{Fraction, whole, ◌+ℚ◌, ◌*ℚ◌}
 use Rattle.frac_laws.specs.Sums.{sum_to}
 use Rattle.frac_laws.proofs.FractionTerms.{ring, terms}
@@ -24,35 +23,15 @@ use Rattle.cell_coeffs.specs.Near.{nearest_of}
 use Rattle.cell_coeffs.specs.Writing.{WritesNumbers}
 use Rattle.cell_coeffs.proofs.Near.{stored_of_near, near_opposite, near_mono}
 use Rattle.cell_coeffs.proofs.Links.{stored_zero}
-use Rattle.whole_laws.proofs.Extremes.{All-list_of}
-use Rattle.linear_system.specs.StoredSystem.{StoredSystem, dim_of, stored_number, place_of}
-use Rattle.linear_system.specs.Setting.{HasPlace, HaveSamePlaces}
+use Rattle.whole_laws.proofs.Tests.{same_numbers, both_pass}
+use Rattle.whole_laws.proofs.Found.{found_by}
+use Rattle.whole_laws.proofs.ListsByPlace.{All-list_of}
+use Rattle.linear_system.specs.StoredSystem.{StoredSystem, dim_of, stored_number}
+use Rattle.linear_system.specs.Setting.{HaveSamePlaces}
+use Rattle.linear_system.proofs.Made.{place_kept, same_places_then}
 use Rattle.cell_coeffs.specs.Near.{IsNear, IsStored}
 use Rattle.cell_coeffs.specs.Rows.{AddsNear, AddsNearTo, KeepsOthers, HasFirstPlaces, IsMadeForFirst}
 use Rattle.cell_coeffs.specs.StoredRows.{HasLinks, KeepsRows, IsStoredRow}
-use Rattle.cell_coeffs.proofs.Writes.{same_places_then}
-
--- what none has, and each member that passes, the one that is found has
-pub found_by : (P : Option ℕ → Type 0) (test : ℕ → Bool) (xs : List ℕ) → P None
-    → All (λ e. test e ≡ true → P (Some e)) xs → P (find test xs)
-found_by P test [] bare all = bare
-found_by P test (x ∷ xs) bare all =
-    choose (test x) refl (found_by P test xs bare (All-tail (λ e. test e ≡ true → P (Some e)) x xs all))
-  where
-    choose : (b : Bool) → test x ≡ b → P (find test xs) → P (cond b (Some x) (find test xs))
-    choose true h later = All-head (λ e. test e ≡ true → P (Some e)) x xs all h
-    choose false h later = later
-
-pub both_true : (a b : Bool) → (a && b) ≡ true → (a ≡ true) × (b ≡ true)
-both_true true true h = (refl, refl)
-both_true true false h = (refl, h)
-both_true false b h = absurd (false≢true h)
-
-pub same_numbers : (a b : ℕ) → (a == b) ≡ true → a ≡ b
-same_numbers a b h = elim (eqb_tells a b) [
-  | inl same ↦ same.1
-  | inr other ↦ absurd (false≢true (sym other.0 ∙ h))
-]
 
 -- no transition leads from a state to itself
 pub no_loop : (product : Product) (i : ℕ) → IsWellFormed product → transition_between product i i ≡ None
@@ -64,8 +43,8 @@ no_loop product i formed =
     → P (Some e))
     (length product.transitions) (λ e. e)
     (λ e b h. absurd (formed.transitions.different e no_transition b
-    (same_numbers (transition_at product e).from i (both_true _ _ h).0
-    ∙ sym (same_numbers (transition_at product e).to i (both_true _ _ h).1)))))
+    (same_numbers (transition_at product e).from i (both_pass _ _ h).0
+    ∙ sym (same_numbers (transition_at product e).to i (both_pass _ _ h).1)))))
 
 -- one addition after another
 pub adds_then_to : (powers a b c : ℕ) (y z w : ℕ → Fraction) (old mid new : List ℤ) → a + b ≡ c
@@ -83,15 +62,6 @@ adds_then_to powers a b c y z w old mid new sum are first second halves m x few 
 pub adds_then : (a b c : ℕ) (y z w : ℕ → Fraction) (old mid new : List ℤ) → a + b ≡ c → ((m : ℕ) → y m +ℚ z m ≡ w m)
     → AddsNear a y old mid → AddsNear b z mid new → AddsNear c w old new
 adds_then = adds_then_to 9
-
-pub place_kept : (old new : StoredSystem) (i j : ℕ) → HaveSamePlaces old new → HasPlace old i j → HasPlace new i j
-place_kept old new i j same place =
-    let P : List ℕ → Type 0 = λ columns. place_of columns j < length columns in
-    record {
-      row_in = rw same.dim place.row_in;
-      col_in = rw same.dim place.col_in;
-      has_column = subst P (sym (same.columns i)) place.has_column;
-    }
 
 pub places_kept : (product : Product) (old new : StoredSystem) → HaveSamePlaces old new → HasFirstPlaces product old
     → HasFirstPlaces product new

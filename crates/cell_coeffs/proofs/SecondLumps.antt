@@ -16,11 +16,10 @@ use Rattle.frac_laws.specs.Rounding.{floor_of}
 use Rattle.frac_laws.proofs.FractionTerms.{ring, terms}
 use Rattle.frac_laws.proofs.Linear.{linear, claims, natural, ◌⊞◌, ◌⊠◌, ◌·◌}
 use Rattle.frac_laws.proofs.Order.{le_trans, le_of_equal, le_of_lt}
-use Rattle.frac_laws.proofs.Floors.{floor_le, lt_next}
+use Rattle.frac_laws.proofs.Floors.{floor_le, lt_next, shift-floor}
 use Rattle.frac_laws.proofs.Quotients.{over_is, over_add, over_mul, inverse, whole_add, whole_mul}
 use Rattle.frac_laws.proofs.RoundingLaws.{floor-multiple}
 use Rattle.frac_laws.proofs.Sizes.{size_le_of_between}
-use Rattle.fixed_num.proofs.Shifts.{shift-floor}
 use Rattle.linear_system.specs.StandsFor.{units}
 use Rattle.cell_bounds.specs.ScaledSystems.{scaling}
 use Rattle.cell_coeffs.proofs.Setting.{set_below}

@@ -2,13 +2,13 @@
 use Rattle.std.specs.Prelude.{◌≡◌, ℕ, zero, suc, pos, ◌<◌, ◌≤◌, [], ◌∷◌, length}
 use Rattle.std.proofs.Common.{refl, ap, sym, ◌∙◌, arith, inl, inr}
 use Rattle.std.proofs.lemmas.Bool.{cases_lt}
-use Rattle.frac_laws.specs.Fraction.{Fraction, whole, over, opposite, size, is_not_negative, ◌+ℚ◌, ◌-ℚ◌, ◌*ℚ◌, ◌≤ℚ◌}
+use Rattle.frac_laws.specs.Fraction.{Fraction, whole, over, size, ◌+ℚ◌, ◌*ℚ◌, ◌≤ℚ◌}
 use Rattle.frac_laws.specs.Sums.{sum_to}
 use Rattle.frac_laws.specs.Lists.{Vector, number_at, vector_at}
 use Rattle.frac_laws.specs.Norms.{Sup}
 use Rattle.frac_laws.proofs.FractionTerms.{ring, terms}
 use Rattle.frac_laws.proofs.Linear.{linear, claims, natural, ◌⊞◌, ◌⊠◌, ◌·◌}
-use Rattle.frac_laws.proofs.Order.{le_refl, le_trans, le_of_equal}
+use Rattle.frac_laws.proofs.Order.{le_trans, le_of_equal}
 use Rattle.frac_laws.proofs.Norms.{size_zero, number_below_norm}
 use Rattle.frac_laws.proofs.Signs.{mul_natural}
 use Rattle.frac_laws.proofs.Sizes.{size_add, size_mul_natural}
@@ -27,6 +27,7 @@ use Rattle.cell_bounds.specs.ScaledSystems.{scaled_system}
 use Rattle.cell_bounds.proofs.CellConstants.{rates_total, interest_total, rate_natural, interest_natural, load_natural}
 use Rattle.moment_laws.proofs.ScaledRuns.{free-scaled}
 use Rattle.cell_coeffs.specs.Rows.{IsSmallCell}
+use Rattle.product_laws.proofs.FittingNumbers.{load_most}
 
 pub number_past : (v : Vector) (m : ℕ) → length v ≤ m → number_at v m ≡ whole (pos 0)
 number_past [] m past = refl
@@ -35,16 +36,6 @@ number_past (x ∷ v) (suc m) past = number_past v m (omega arith)
 
 zero_small : (x r : Fraction) → x ≡ whole (pos 0) → whole (pos 0) ≤ℚ r → size x ≤ℚ r
 zero_small x r is some = le_trans (le_of_equal (ap size is ∙ size_zero)) some
-
-load_later : sum_to 8 (λ m. load_bound (suc m)) ≤ℚ whole (pos 1)
-unfolding ◌+ℚ◌ ◌*ℚ◌ ◌-ℚ◌ opposite is_not_negative
-load_later = record { le = refl }
-
-load_most : (m : ℕ) → m < 9 → load_bound m ≤ℚ whole (pos 1)
-load_most zero b = le_refl _
-load_most (suc m) b =
-    le_trans (term_le_sum_to 8 m {f = λ k. load_bound (suc k)} (λ k c. load_natural (suc k)) (omega (arith, b)))
-    load_later
 
 module _ (cell : CellCurves) (rates : ℕ → ℕ → Fraction) (rho iota nu : Fraction) (rate : ℕ → Fraction)
     (sum : ℕ → ℕ → Fraction) (x greatest h G : Fraction) (curves : HasSmallCurves cell rates rho iota nu)

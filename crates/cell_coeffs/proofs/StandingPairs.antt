@@ -20,13 +20,13 @@ use Rattle.model_specs.specs.Systems.{interest_at, leaving_at, second_payment_at
 use Rattle.model_specs.specs.Systems.{second_moment_system, norberg_pair, matrix_of, vector_of}
 use Rattle.whole_laws.specs.Whole.{list_of}
 use Rattle.whole_laws.proofs.ListsByPlace.{past-list_of, at-list_of, length-list_of}
+use Rattle.whole_laws.proofs.Members.{at-map}
 use Rattle.model_laws.proofs.CellEntries.{systems_have_entries, systems_keep_states}
 use Rattle.linear_system.specs.StoredSystem.{StoredSystem, dim_of, row_of, place_of, number_at_place}
 use Rattle.linear_system.specs.StoredSystem.{stored_number, stored_free}
 use Rattle.linear_system.specs.Setting.{HasPlace}
 use Rattle.linear_system.specs.StandsFor.{units, StandsForPair, MatricesStandNear, VectorsStandNear, block_from}
 use Rattle.cell_bounds.specs.ScaledSystems.{scaled_pair}
-use Rattle.cell_bounds.proofs.TameSystems.{at-map}
 use Rattle.cell_bounds.proofs.TableNorms.{unit_at, where_same-is}
 use Rattle.moment_laws.proofs.ScaledRuns.{free-scaled}
 use Rattle.cell_coeffs.specs.PairRows.{IsSmallPair, IsStoredSecondRow}

@@ -3,11 +3,10 @@ use Rattle.std.specs.Prelude.{◌≡◌, ◌≢◌, ℕ, ◌+◌, ◌<◌, ◌&&
 use Rattle.std.proofs.Common.{refl, ap, sym, ◌∙◌, arith, inl, inr}
 use Rattle.std.proofs.lemmas.Bool.Decides.{eqb_tells}
 use Rattle.linear_system.specs.StoredSystem.{StoredSystem, stored_number}
-use Rattle.linear_system.specs.Setting.{HaveSamePlaces, SetsOnly, is_same_place}
+use Rattle.linear_system.specs.Setting.{SetsOnly, is_same_place}
+use Rattle.linear_system.proofs.Made.{same_places_then}
 use Rattle.cell_coeffs.specs.Writing.{WritesNumbers}
-
-same_is : (n : ℕ) → nat_eq n n ≡ true
-same_is n = grind arith
+use Rattle.whole_laws.proofs.Tests.{same_is}
 
 differ_is : (n m : ℕ) → n ≢ m → nat_eq n m ≡ false
 differ_is n m differ = elim (eqb_tells n m) [
@@ -46,13 +45,6 @@ module _ (old new : StoredSystem) (row col m : ℕ) (v : ℤ) (set : SetsOnly ol
   pub set_row : (r c k : ℕ) → r ≢ row → stored_number new r c k ≡ stored_number old r c k
   set_row r c k differ = set.numbers r c k
       ∙ ap (λ b. cond b v (stored_number old r c k)) (other_row row col m r c k differ)
-
-pub same_places_then : (a b c : StoredSystem) → HaveSamePlaces a b → HaveSamePlaces b c → HaveSamePlaces a c
-same_places_then a b c h k = record {
-  dim = k.dim ∙ h.dim;
-  degree = k.degree ∙ h.degree;
-  columns = λ row. k.columns row ∙ h.columns row;
-}
 
 apart : (k m : ℕ) → k < m + 1 → k ≢ m → k < m
 apart k m below differ = grind (arith, below, differ)

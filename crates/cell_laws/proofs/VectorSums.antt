@@ -25,7 +25,7 @@ number_at-sum_over zero f i = refl
 number_at-sum_over (suc n) f i =
     number_at-add_lists (sum_over n f) (f n) i ∙ ap (λ z. z +ℚ number_at (f n) i) (number_at-sum_over n f i)
 
-norm_of_none : (norm : Norm) → norm_of_vector norm [] ≤ℚ whole (pos 0)
+pub norm_of_none : (norm : Norm) → norm_of_vector norm [] ≤ℚ whole (pos 0)
 norm_of_none Sup = le_refl _
 norm_of_none Sum = le_refl _
 

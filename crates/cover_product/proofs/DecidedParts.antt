@@ -9,10 +9,11 @@ use Rattle.model_specs.specs.Product.{Product}
 use Rattle.model_specs.specs.RecordRules.{HasGoodNames, HasGoodHead, HasGoodTransitions, HasGoodCurves}
 use Rattle.model_specs.specs.RecordRules.{HasGoodPayments, HasGoodLumps}
 use Rattle.model_specs.specs.RecordRules.{IsCurve, IsBoundedCurve, IsPayment, IsBoundedPayment}
-use Rattle.cover_product.proofs.DecidedRules.{all_by, differ, numbers_differ, distinct_by, all_true, all_pass}
+use Rattle.cover_product.proofs.DecidedRules.{all_by, numbers_differ, distinct_by, all_true, all_pass}
 use Rattle.cover_product.proofs.DecidedRules.{is_good_name, good_name, is_curve, curve_by, curve_is_bounded}
 use Rattle.cover_product.proofs.DecidedRules.{bounded_curve, is_payment, payment_by, is_bounded_payment}
 use Rattle.cover_product.proofs.DecidedRules.{bounded_payment}
+use Rattle.whole_laws.proofs.Tests.{other_numbers}
 
 -- names, whose distinct states are told apart by a number of their names
 abbrev pub tests_names : (List ℕ → ℕ) → Product → List Bool
@@ -70,7 +71,7 @@ transitions_by product h =
       to = all_by (λ t. nat_le (suc t.to) states) (λ t. t.to < states) product.transitions
           (λ t g. leb-true (suc t.to) states g) (test 1 true (lit< tt));
       different = all_by (λ t. not (t.from == t.to)) (λ t. t.from ≢ t.to) product.transitions
-          (λ t g. differ t.from t.to g) (test 2 true (lit< tt));
+          (λ t g. other_numbers t.from t.to g) (test 2 true (lit< tt));
       distinct = distinct_by number_of (0, 0) (map (λ t. (t.from, t.to)) product.transitions) (test 3 true (lit< tt));
     }
 

@@ -1,33 +1,27 @@
 -- Rules of lists by tests that compute, for products that are given.
-use Rattle.std.specs.Prelude.{◌≡◌, ◌≢◌, ℕ, suc, pos, ◌-◌, ◌*◌, ◌^◌, ◌<◌, ◌≤◌, Bool, true, not, ◌==◌, nat_le, ℤ, All}
+use Rattle.std.specs.Prelude.{◌≡◌, ℕ, suc, pos, ◌-◌, ◌*◌, ◌^◌, ◌<◌, ◌≤◌, Bool, true, not, ◌==◌, nat_le, ℤ, All}
 use Rattle.std.specs.Prelude.{List, [], ◌∷◌, length, slice_index, slice_index_or, unsigned_abs}
 use Rattle.std.specs.List.{list_all, AllPass}
 use Rattle.std.proofs.Common.{ap, arith, lit<}
-use Rattle.std.proofs.lemmas.Bool.{false≢true, leb-true, eqb-true, eq-eqb}
+use Rattle.std.proofs.lemmas.Bool.{leb-true, eqb-true}
 use Rattle.std.proofs.lemmas.List.Sums.{AllPass-from_list_all}
 use Rattle.whole_laws.specs.Whole.{places}
 use Rattle.model_specs.specs.Names.{IsGoodName, is_name_byte}
 use Rattle.model_specs.specs.Curve.{Piece, zero_piece}
 use Rattle.model_specs.specs.Product.{Step}
 use Rattle.model_specs.specs.Payments.{constant_step}
-use Rattle.model_specs.specs.MonthNumbers.{coefficient_at, bernstein_numerators}
-use Rattle.model_specs.specs.RecordRules.{AreDistinct, IsBounded, IsBoundedCurve, IsBoundedPayment, months_of}
+use Rattle.model_specs.specs.MonthNumbers.{bernstein_numerators}
+use Rattle.model_specs.specs.RecordRules.{AreDistinct, IsBoundedCurve, IsBoundedPayment, months_of}
 use Rattle.model_specs.specs.RecordRules.{piece_starts, step_starts, StartsRise, IsCurve, IsPayment}
-use Rattle.whole_laws.proofs.ListsByPlace.{at-list_of, length-list_of}
+use Rattle.model_specs.specs.RecordRules.{is_bounded}
+use Rattle.whole_laws.proofs.ListsByPlace.{holds_at_places}
+use Rattle.whole_laws.proofs.Tests.{other_numbers}
+use Rattle.model_laws.proofs.BoundedCoefficients.{bounded_from_test}
 
--- a fact of each member, by a test of each
+-- a fact of holds_at_places member, by a test of holds_at_places
 pub all_by : {A : Type 0} (p : A → Bool) (P : A → Type 0) (xs : List A) → ((x : A) → p x ≡ true → P x)
     → list_all p xs ≡ true → All P xs
 all_by p P xs tells h k d b = tells (slice_index_or xs k d) (AllPass-from_list_all p xs h k d b)
-
--- a test of each place below a number
-pub each : (n : ℕ) (p : ℕ → Bool) → list_all p (places n) ≡ true → (k : ℕ) → k < n → p k ≡ true
-each n p h k b =
-    rw (at-list_of n (λ i. i) k 0 b) at (AllPass-from_list_all p (places n) h k 0 (rw (length-list_of n (λ i. i)) b))
-
--- members differ where numbers do
-pub differ : (a b : ℕ) → not (a == b) ≡ true → a ≢ b
-differ a b h e = false≢true (rw (eq-eqb a b e) at h)
 
 abbrev pub numbers_differ : {A : Type 0} → (A → ℕ) → A → List A → Bool
 numbers_differ number none xs = list_all (λ j. list_all
@@ -36,13 +30,13 @@ numbers_differ number none xs = list_all (λ j. list_all
 pub distinct_by : {A : Type 0} (number : A → ℕ) (none : A) (xs : List A) → numbers_differ number none xs ≡ true
     → AreDistinct none xs
 distinct_by number none xs h i j low within e =
-    differ (number (slice_index_or xs i none)) (number (slice_index_or xs j none))
-    (each j (λ i. not (number (slice_index_or xs i none) == number (slice_index_or xs j none)))
-    (each (length xs) (λ j. list_all
+    other_numbers (number (slice_index_or xs i none)) (number (slice_index_or xs j none))
+    (holds_at_places j (λ i. not (number (slice_index_or xs i none) == number (slice_index_or xs j none)))
+    (holds_at_places (length xs) (λ j. list_all
     (λ i. not (number (slice_index_or xs i none) == number (slice_index_or xs j none))) (places j)) h j within) i low)
     (ap number e)
 
--- tests beside each other
+-- tests beside holds_at_places other
 abbrev pub all_true : List Bool → Bool
 all_true tests = list_all (λ b. b) tests
 
@@ -62,14 +56,6 @@ good_name most name h =
       bytes = AllPass-from_list_all is_name_byte name (test 2 true (lit< tt));
     }
 
--- bounds of coefficients
-abbrev pub is_bounded : List ℤ → ℕ → Bool
-is_bounded c s = list_all (λ i. nat_le (unsigned_abs (coefficient_at c i) * s ^ i) (10 ^ 22)) (places (length c))
-
-pub bounded : (c : List ℤ) (s : ℕ) → is_bounded c s ≡ true → IsBounded c s
-bounded c s h i b = leb-true (unsigned_abs (coefficient_at c i) * s ^ i) (10 ^ 22)
-    (each (length c) (λ i. nat_le (unsigned_abs (coefficient_at c i) * s ^ i) (10 ^ 22)) h i b)
-
 -- starts that rise from 0 and stay below the term
 abbrev pub starts_rise : ℕ → List ℕ → List Bool
 starts_rise months starts = nat_le 1 (length starts) ∷ (slice_index starts 0 == 0)
@@ -84,10 +70,10 @@ starts_by months starts h =
       some = leb-true 1 (length starts) (test 0 true (lit< tt));
       first = eqb-true (slice_index starts 0) 0 (test 1 true (lit< tt));
       rising = λ k b. leb-true (suc (slice_index starts k)) (slice_index starts (suc k))
-          (each (length starts - 1) (λ k. nat_le (suc (slice_index starts k)) (slice_index starts (suc k)))
+          (holds_at_places (length starts - 1) (λ k. nat_le (suc (slice_index starts k)) (slice_index starts (suc k)))
           (test 2 true (lit< tt)) k (omega (arith, b)));
       below = λ k b. leb-true (suc (slice_index starts k)) months
-          (each (length starts) (λ k. nat_le (suc (slice_index starts k)) months) (test 3 true (lit< tt)) k b);
+          (holds_at_places (length starts) (λ k. nat_le (suc (slice_index starts k)) months) (test 3 true (lit< tt)) k b);
     }
 
 -- curves
@@ -110,9 +96,9 @@ curve_is_bounded months pieces = list_all (λ k. is_bounded (slice_index_or piec
 
 pub bounded_curve : (months : ℕ) (pieces : List Piece) → curve_is_bounded months pieces ≡ true
     → IsBoundedCurve months pieces
-bounded_curve months pieces h k b = bounded (slice_index_or pieces k zero_piece).c
+bounded_curve months pieces h k b = bounded_from_test (slice_index_or pieces k zero_piece).c
     (months_of months (piece_starts pieces) k)
-    (each (length pieces) (λ k. is_bounded (slice_index_or pieces k zero_piece).c
+    (holds_at_places (length pieces) (λ k. is_bounded (slice_index_or pieces k zero_piece).c
     (months_of months (piece_starts pieces) k)) h k b)
 
 -- payments
@@ -154,11 +140,11 @@ bounded_payment months steps h k b =
     let c = step_of steps k in
     let s = months_of months (step_starts steps) k in
     record {
-      coefficients = bounded c s (each (length steps)
+      coefficients = bounded_from_test c s (holds_at_places (length steps)
           (λ k. is_bounded (step_of steps k) (months_of months (step_starts steps) k)) (test 0 true (lit< tt)) k b);
       amounts = λ j low. all_by (λ z. nat_le (unsigned_abs z) (10 ^ 12 * 2488320))
           (λ z. unsigned_abs z ≤ 10 ^ 12 * 2488320) (bernstein_numerators c j)
           (λ z h. leb-true (unsigned_abs z) (10 ^ 12 * 2488320) h)
-          (each s (amounts_within c) (each (length steps) (λ k. list_all (amounts_within (step_of steps k))
+          (holds_at_places s (amounts_within c) (holds_at_places (length steps) (λ k. list_all (amounts_within (step_of steps k))
           (places (months_of months (step_starts steps) k))) (test 1 true (lit< tt)) k b) j low);
     }

@@ -11,13 +11,14 @@ use Rattle.frac_laws.specs.Polynomials.{shifted, stretched}
 use Rattle.frac_laws.proofs.Order.{le_of_equal}
 use Rattle.frac_laws.proofs.Linear.{natural}
 use Rattle.frac_laws.proofs.Sizes.{size_of_natural, size-opposite}
-use Rattle.frac_laws.proofs.Quotients.{over_mul, over_add, over_scale, over_le_of_cross, over-opposite, times_one}
+use Rattle.frac_laws.proofs.Quotients.{over_mul, over_add, over_scale, over_le_of_cross, over-opposite}
 use Rattle.frac_laws.proofs.Polynomials.{shifted-stretched, shifted-shifted}
 use Rattle.frac_laws.proofs.Polynomials.{stretched-stretched, length-shifted, length-stretched}
 use Rattle.model_specs.specs.Cells.{Grid, Direction, Forward, Backward, cell_polynomial, sign_of, origin_of}
 use Rattle.curve_laws.specs.PartLaws.{part_of, coefficient_bound, mean_of}
 use Rattle.curve_laws.specs.CellLaws.{over_month, CellsHaveSmallCoefficients, CellsKeepMeans}
 use Rattle.curve_laws.proofs.PartFacts.{small_coefficients, means}
+use Rattle.frac_base.proofs.WholeRing.{mul_one}
 
 -- where the cell starts, and how long it is, as parts of the month
 abbrev pub start_in_month : Grid → ℕ → Fraction
@@ -27,7 +28,7 @@ abbrev pub length_in_month : Grid → Fraction
 length_in_month grid = over (sign_of grid.direction) grid.cells
 
 length_in_years : (z : ℤ) (n : ℕ) → 1 ≤ n → over z n *ℚ over (pos 1) 12 ≡ over z (12 * n)
-length_in_years z n h = over_mul z (pos 1) n 12 h (omega arith) ∙ ap₂ over (times_one z) (mul_comm n 12)
+length_in_years z n h = over_mul z (pos 1) n 12 h (omega arith) ∙ ap₂ over (mul_one z) (mul_comm n 12)
 
 part_in_years : (o n : ℕ) → 1 ≤ n → over (pos 1) 12 *ℚ over (pos o) n ≡ over (pos o) (12 * n)
 part_in_years o n h =

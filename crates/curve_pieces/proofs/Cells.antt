@@ -5,7 +5,6 @@ use mathlib.Core.Path.{ap₂}
 use Rattle.frac_laws.specs.Fraction.{Fraction, over, whole, ◌*ℚ◌}
 use Rattle.frac_laws.specs.Lists.{scale_list}
 use Rattle.frac_laws.specs.Polynomials.{all_over, shifted, stretched}
-use Rattle.frac_laws.proofs.FractionTerms.{ring, terms}
 use Rattle.frac_laws.proofs.Quotients.{over_is}
 use Rattle.frac_laws.proofs.ListAlgebra.{scale_list-one}
 use Rattle.frac_laws.proofs.Polynomials.{shifted-stretched, stretched-stretched}
@@ -13,14 +12,11 @@ use Rattle.named_numbers.specs.Numbers.{cells_of_month, cells_of_year}
 use Rattle.poly_small.proofs.Units.{all_over-times}
 use Rattle.model_specs.specs.Curve as model
 use Rattle.model_specs.specs.Cells.{Direction, sign_of, origin_of}
+use Rattle.model_laws.proofs.CellEntries.{cells_in_years}
 
 pub stretched-one : (p : List Fraction) → stretched (whole (pos 1)) p ≡ p
 stretched-one [] = refl
 stretched-one (c ∷ p) = ap (λ q. c ∷ q) (scale_list-one (stretched (whole (pos 1)) p) ∙ stretched-one p)
-
--- so many cells are that many 384ths of a year
-pub cells_in_years : (n : ℤ) → over (pos 1) cells_of_year *ℚ whole n ≡ over n cells_of_year
-cells_in_years n = ring (whole n ∷ over (pos 1) cells_of_year ∷ []) (hlevel terms) refl ∙ sym (over_is n cells_of_year)
 
 pub cell_is_curve : (q r n : List ℤ) (direction : Direction) (origin month cell den : ℕ) (piece : model.Piece) → 1 ≤ den
     → all_over (den * cells_of_year ^ 5) q ≡ stretched (over (pos 1) cells_of_year) (all_over den piece.c)

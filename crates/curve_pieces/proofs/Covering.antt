@@ -1,31 +1,23 @@
 -- What covers a month, a piece of a curve or a step of a payment, is the last one that starts at or before it.
-use Rattle.std.proofs.Common.{◌≡◌, ℕ, zero, suc, ◌+◌, ◌-◌, ◌*◌, ◌^◌, ◌<◌, ◌≤◌, ℤ, pos, List, [], ◌∷◌, length, get_or}
-use Rattle.std.proofs.Common.{true, false, arith, refl, ap, inl, inr, add-one}
-use Rattle.std.specs.Prelude.{nat_le, filter, map, unsigned_abs}
-use Rattle.std.proofs.Math.Nat.{mul-le-mul_left, pow-le-pow_left}
+use Rattle.std.proofs.Common.{◌≡◌, ℕ, zero, suc, ◌+◌, ◌-◌, ◌<◌, ◌≤◌, List, [], ◌∷◌, length, get_or}
+use Rattle.std.proofs.Common.{arith, refl, ap, inl, inr, add-one}
+use Rattle.std.specs.Prelude.{nat_le, filter, map}
 use Rattle.std.proofs.lemmas.Bool.{cases_lt}
-use Rattle.std.proofs.lemmas.Bool.Decides.{nat_tests}
 use Rattle.std.proofs.lemmas.List.{length-map, get_or_default, get_or_past}
-use Rattle.named_numbers.specs.Numbers.{most_coefficient}
 use Rattle.whole_laws.specs.Whole.{last_or}
-use Rattle.model_specs.specs.RecordRules.{IsBounded, StartsRise, months_of}
+use Rattle.whole_laws.proofs.Tests.{within_is, above_is_not}
+use Rattle.model_specs.specs.RecordRules.{StartsRise, months_of}
 
 -- the start of the item at a place
 abbrev pub start_of : {A : Type 0} → (A → ℕ) → List A → ℕ → ℕ
 start_of start items k = get_or (map start items) k 0
-
-starts_by : (a b : ℕ) → a ≤ b → nat_le a b ≡ true
-starts_by a b h = grind (arith, nat_tests)
-
-starts_after : (a b : ℕ) → b < a → nat_le a b ≡ false
-starts_after a b h = grind (arith, nat_tests)
 
 nothing_started : {A : Type 0} (start : A → ℕ) (items : List A) (month : ℕ)
     → ((k : ℕ) → k < length items → month < start_of start items k)
     → filter (λ item. nat_le (start item) month) items ≡ []
 nothing_started start [] month h = refl
 nothing_started start (x ∷ items) month h =
-    rw (starts_after (start x) month (h 0 (omega arith)))
+    rw (above_is_not (start x) month (h 0 (omega arith)))
     (nothing_started start items month (λ k below. h (suc k) (omega arith)))
 
 last_started : {A : Type 0} (start : A → ℕ) (items : List A) (month low : ℕ) (none other : A) → low < length items
@@ -35,11 +27,11 @@ last_started : {A : Type 0} (start : A → ℕ) (items : List A) (month low : �
 last_started start [] month low none other inside upto after = absurd (omega arith)
 last_started start (x ∷ items) month zero none other inside upto after =
     rw (
-      starts_by (start x) month (upto 0 (omega arith)),
+      within_is (start x) month (upto 0 (omega arith)),
       nothing_started start items month (λ k below. after (suc k) (omega arith) (omega arith)),
     ) refl
 last_started start (x ∷ items) month (suc low) none other inside upto after =
-    rw (starts_by (start x) month (upto 0 (omega arith)))
+    rw (within_is (start x) month (upto 0 (omega arith)))
     (last_started start items month low x other (omega arith) (λ k below. upto (suc k) (omega arith))
     (λ k above below. after (suc k) (omega arith) (omega arith)))
 
@@ -90,10 +82,3 @@ held start items months month low last =
           omega (arith, later, get_or_default (map start items) (suc low) months 0 below, last.started)
       | inr above ↦ omega (arith, get_or_past (map start items) (suc low) months above, last.started, last.term)
     ]
-
-shorter_power : (n s t j l : ℕ) → s ≤ t → n * t ^ j ≤ l → n * s ^ j ≤ l
-shorter_power n s t j l h k = omega (arith, mul-le-mul_left n (pow-le-pow_left h j))
-
-pub bounded_shorter : (c : List ℤ) (s t : ℕ) → s ≤ t → IsBounded c t → IsBounded c s
-bounded_shorter c s t h b =
-    λ i inside. shorter_power (unsigned_abs (get_or c i (pos 0))) s t i most_coefficient h (b i inside)

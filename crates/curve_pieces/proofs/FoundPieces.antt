@@ -7,9 +7,9 @@ use Rattle.model_specs.specs.RecordRules.{IsBounded, months_of}
 use Rattle.curve_pieces.specs.declared.piece.Piece.{Piece}
 use Rattle.curve_pieces.specs.Records.{record_of, records_of, starts_of}
 use Rattle.curve_pieces.specs.PiecewiseCurves.{PiecewiseCurve, IsAllowed}
-use Rattle.curve_pieces.proofs.Covering.{bounded_shorter}
 use Rattle.curve_pieces.proofs.LawfulCurves.{starts_rise}
 use Rattle.curve_pieces.proofs.Lookups.{IsFound, found_record, found_covers, found_holds}
+use Rattle.model_laws.proofs.BoundedCoefficients.{bounded_shorter}
 
 -- the month at which a piece starts
 abbrev pub from_of : model.Piece → ℕ

@@ -4,10 +4,8 @@ pub mod Causes
 pub mod Cells
 pub mod Covering
 pub mod FoundPieces
-pub mod FourCoefficients
 pub mod ItemStarts
 pub mod LawfulCurves
 pub mod Lookups
-pub mod Numerators
 pub mod OrderedStarts
 pub mod Sizes

@@ -11,20 +11,20 @@ use Rattle.whole_laws.specs.Whole.{list_of, natural_part}
 use Rattle.model_specs.specs.Curve.{Piece, zero_piece}
 use Rattle.model_specs.specs.Product.{Step}
 use Rattle.model_specs.specs.Payments.{constant_step}
-use Rattle.model_specs.specs.RecordRules.{months_of, piece_starts, step_starts}
+use Rattle.model_specs.specs.RecordRules.{months_of, piece_starts, step_starts, is_bounded}
 use Rattle.product_file.specs.Checks.{first_failed, first_failed_from, first_failed_of_lists}
 use Rattle.product_file.specs.Members.{whole_of, item_at, listed, members_of, is_absent}
 use Rattle.product_file.specs.TransitionRule.{transition_items}
 use Rattle.product_file.specs.HeadRules.{rule_4}
 use Rattle.product_file.specs.CurveRules.{most_coefficients, is_piece, is_in_order, start_of, not_empty, curve_items}
-use Rattle.product_file.specs.CurveRules.{piece_of, months_of_term, is_bounded, rule_8_of, rule_8, rule_9_of}
+use Rattle.product_file.specs.CurveRules.{piece_of, months_of_term, rule_8_of, rule_8, rule_9_of}
 use Rattle.product_file.specs.PaymentRules.{is_step, step_of, is_bounded_step, steps_rule_10, steps_rule_11}
 use Rattle.product_file.specs.PaymentRules.{sum_rule_10}
 use Rattle.product_file.specs.PaymentRules.{sum_items, steps_items, sojourn_items, sojourn_rule_10, is_good_sojourn}
 use Rattle.product_file.specs.PaymentRules.{rule_10}
 use Rattle.file_checks.specs.Lists.{AreInOrder, starts_of, is_good_piece, is_good_step, is_bounded_piece}
 use Rattle.file_checks.specs.Lists.{is_bounded_step_at}
-use Rattle.whole_laws.proofs.ListsByPlace.{at-list_of, length-list_of}
+use Rattle.whole_laws.proofs.ListsByPlace.{at-list_of, length-list_of, list_of-agree}
 use Rattle.file_checks.proofs.Checks.{not_empty-some, holds_at, place_none}
 use Rattle.file_checks.proofs.InOrder.{few_in_order, term-le}
 
@@ -122,13 +122,6 @@ sojourn_obeys tree s none inside =
     (list_of count (sojourn_rule_10 tree)) s
     (payments_obey tree none).1 (omega (arith, length-list_of count (sojourn_rule_10 tree)))
 
--- lists of equal values are equal
-list_of-same : {A : Type 0} (n : ℕ) (f g : ℕ → A) → ((i : ℕ) → i < n → f i ≡ g i) → list_of n f ≡ list_of n g
-list_of-same zero f g same = refl
-list_of-same (suc n) f g same =
-    ap₂ (λ x xs. x ∷ xs) (same 0 (omega arith))
-    (list_of-same n (λ i. f (suc i)) (λ i. g (suc i)) (λ i below. same (suc i) (omega arith)))
-
 -- the starts of the pieces and steps of the product are those of the file
 starts_of-pieces : (items : List Data) → piece_starts (map piece_of items) ≡ starts_of items
 starts_of-pieces [] = refl
@@ -144,7 +137,7 @@ pub rule_9_is : (tree : Members) (items : List Data)
 rule_9_is tree items =
     let months = months_of_term tree in
     let pieces = map piece_of items in
-    list_of-same (length items) (is_bounded_piece tree items)
+    list_of-agree (length items) (is_bounded_piece tree items)
     (λ i. is_bounded (get_or pieces i zero_piece).c (months_of months (piece_starts pieces) i))
     (λ i below. ap₂ (λ (piece : Piece) (starts : List ℕ). is_bounded piece.c (months_of months starts i))
     (sym (get_or-map piece_of items i (boolean false) zero_piece below)) (sym (starts_of-pieces items)))
@@ -157,7 +150,7 @@ rule_11_is tree items =
     let months = months_of_term tree in
     let steps = map (step_of tree) items in
     let none = constant_step 0 (pos 0) in
-    list_of-same (length items) (is_bounded_step_at tree items)
+    list_of-agree (length items) (is_bounded_step_at tree items)
     (λ i. is_bounded_step (get_or steps i none) (months_of months (step_starts steps) i))
     (λ i below. ap₂ (λ (step : Step) (starts : List ℕ). is_bounded_step step (months_of months starts i))
     (sym (get_or-map (step_of tree) items i (boolean false) none below)) (sym (starts_of-steps tree items)))

@@ -6,6 +6,7 @@ use Rattle.std.proofs.lemmas.Bool.{and_parts}
 use Rattle.std.proofs.lemmas.Int.{ints}
 use Rattle.toml.specs.Data.{Data, Members}
 use Rattle.whole_laws.specs.Whole.{natural_part}
+use Rattle.whole_laws.proofs.Tests.{le_from_test}
 use Rattle.product_file.specs.Checks.{first_failed}
 use Rattle.product_file.specs.Members.{whole_of, item_at}
 use Rattle.product_file.specs.HeadRules.{rule_4}
@@ -14,9 +15,6 @@ use Rattle.file_checks.proofs.Checks.{passed_at}
 
 below_from_test : (a b : ℤ) → int_lt a b ≡ true → a <ℤ b
 below_from_test a b h = grind (arith, ints)
-
-within_from_test : (a b : ℤ) → int_le a b ≡ true → a ≤ℤ b
-within_from_test a b h = grind (arith, ints)
 
 -- a later start is in order where it is above the one before and below the term
 pub in_order-later : (months : ℤ) (items : List Data) (i : ℕ) (before start : ℤ) → i ≢ 0
@@ -37,7 +35,7 @@ start-above months items zero ordered =
     let start = start_of (item_at items 0) in
     let all = and_parts (int_le (pos 0) start && int_le start (pos 0)) (int_lt start months)
     (ordered 0 (omega arith)) in
-    within_from_test _ _ (and_parts (int_le (pos 0) start) (int_le start (pos 0)) all.0).0
+    le_from_test _ _ (and_parts (int_le (pos 0) start) (int_le start (pos 0)) all.0).0
 start-above months items (suc k) ordered =
     let start = start_of (item_at items (suc k)) in
     let before = start_of (item_at items k) in
@@ -63,7 +61,7 @@ pub term-le : (tree : Members) → first_failed (rule_4 tree) ≡ None
     → whole_of (codes "months") tree ≤ℤ pos 1200
 term-le tree none =
     let months = whole_of (codes "months") tree in
-    within_from_test _ _ (and_parts (int_le (pos 1) months) (int_le months (pos 1200))
+    le_from_test _ _ (and_parts (int_le (pos 1) months) (int_le months (pos 1200))
     (passed_at (rule_4 tree) 0 none (omega arith))).1
 
 pub few_in_order : (months : ℤ) (items : List Data) (i : ℕ) → months ≤ℤ pos 1200

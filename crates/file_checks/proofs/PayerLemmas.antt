@@ -11,8 +11,9 @@ use Rattle.product_file.specs.Members.{item_at}
 use Rattle.product_file.specs.HeadRules.{rule_3}
 use Rattle.product_file.specs.CurveRules.{not_empty}
 use Rattle.product_file.specs.PatternRules.{payer_items, payer_state, payer_index, is_good_payer, payer_checks}
+use Rattle.product_file.proofs.Heads.{index_inside}
 use Rattle.file_checks.proofs.Pigeonhole.{at_most}
-use Rattle.file_checks.proofs.StateLemmas.{at_most_twelve, named-below}
+use Rattle.file_checks.proofs.StateLemmas.{at_most_twelve}
 use Rattle.file_checks.proofs.TransitionLemmas.{none_at}
 
 -- what a good payer at a place says
@@ -49,7 +50,7 @@ few_payers tree k names inside good =
     (λ i below. omega (
       arith,
       at_most_twelve tree names,
-      named-below tree _ (good_parts tree i (good i below)).named,
+      index_inside tree _ (good_parts tree i (good i below)).named,
     ))
     (λ i j first second. other_index tree i j first (omega arith) (good_parts tree j (good j second)))
 

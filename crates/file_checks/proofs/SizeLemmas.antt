@@ -1,23 +1,24 @@
 -- Tests of sizes, coefficient by coefficient and month by month.
-use Rattle.std.proofs.Common.{◌≡◌, ℕ, zero, suc, ◌+◌, ◌*◌, ◌^◌, ◌<◌, ◌≤◌, ℤ, pos, Bool, true, false, ◌&&◌, nat_le}
-use Rattle.std.proofs.Common.{List, [], ◌∷◌, ◌++◌, length, get_or, refl, ap, sym, ◌∙◌, inl, inr, arith}
+use Rattle.std.proofs.Common.{◌≡◌, ℕ, zero, suc, ◌*◌, ◌^◌, ◌<◌, ◌≤◌, ℤ, pos, Bool, true, false, ◌&&◌, nat_le}
+use Rattle.std.proofs.Common.{List, [], ◌∷◌, length, get_or, refl, ap, sym, ◌∙◌, arith}
 use mathlib.Core.Path.{ap₂}
 use Rattle.std.specs.Prelude.{unsigned_abs}
 use Rattle.std.specs.List.{list_all}
-use Rattle.std.proofs.Math.Nat.{mul-le-mul_left, pow-le-pow_left}
-use Rattle.std.proofs.lemmas.Bool.{true_from_ne_false, false≢true, leb-true, cases_lt}
+use Rattle.std.proofs.lemmas.Bool.{true_from_ne_false, false≢true, leb-true}
 use Rattle.std.proofs.lemmas.Bool.Decides.{nat_tests}
 use Rattle.std.proofs.lemmas.List.Folds.{list_all_at}
 use Rattle.toml.specs.Data.{Data, Members}
 use Rattle.named_numbers.specs.Numbers.{most_coefficient}
 use Rattle.whole_laws.specs.Whole.{list_of, places}
 use Rattle.model_specs.specs.MonthNumbers.{coefficient_at, bernstein_numerators}
-use Rattle.model_specs.specs.RecordRules.{IsBounded, months_of}
+use Rattle.model_specs.specs.RecordRules.{IsBounded, months_of, is_bounded}
 use Rattle.product_file.specs.Members.{item_at}
-use Rattle.product_file.specs.CurveRules.{is_bounded, months_of_term}
+use Rattle.product_file.specs.CurveRules.{months_of_term}
 use Rattle.product_file.specs.PaymentRules.{amount_of, are_small}
 use Rattle.file_checks.specs.Lists.{starts_of, is_bounded_step_at}
 use Rattle.whole_laws.proofs.ListsByPlace.{at-list_of, length-list_of}
+use Rattle.whole_laws.proofs.Numbers.{shorter_power}
+use Rattle.model_laws.proofs.FourCoefficients.{padded}
 
 -- a test of all values of a function
 pub all_of : {A : Type 0} (p : A → Bool) (n : ℕ) (f : ℕ → A) → ((i : ℕ) → i < n → p (f i) ≡ true)
@@ -48,9 +49,6 @@ size_above f u n b m i l e k p h =
     over : (x y : ℕ) → y < x → nat_le x y ≡ false
     over x y h = grind (arith, nat_tests)
 
-shorter_power : (n s t j l : ℕ) → s ≤ t → n * t ^ j ≤ l → n * s ^ j ≤ l
-shorter_power n s t j l h k = omega (arith, mul-le-mul_left n (pow-le-pow_left h j))
-
 -- a bounded part is bounded over fewer months, with zeros for its last coefficients too
 pub bounded_from_test : (c : List ℤ) (s t : ℕ) → s ≤ t → is_bounded c t ≡ true → IsBounded c s
 bounded_from_test c s t fewer test = λ i inside.
@@ -58,38 +56,6 @@ bounded_from_test c s t fewer test = λ i inside.
     (leb-true _ _
     (passed_of (λ j. nat_le (unsigned_abs (coefficient_at c j) * t ^ j) most_coefficient) (length c) i (λ j. j) test
     inside))
-
--- four coefficients and two zeros
-abbrev pub padded : List ℤ → List ℤ
-padded c = c ++ (pos 0 ∷ pos 0 ∷ [])
-
-padded-within : (c : List ℤ) (i : ℕ) → i < length c → coefficient_at (padded c) i ≡ coefficient_at c i
-padded-within [] i inside = absurd (omega arith)
-padded-within (x ∷ c) zero inside = refl
-padded-within (x ∷ c) (suc i) inside = padded-within c i (omega arith)
-
-padded-past : (c : List ℤ) (i : ℕ) → length c ≤ i → coefficient_at (padded c) i ≡ pos 0
-padded-past [] zero past = refl
-padded-past [] (suc zero) past = refl
-padded-past [] (suc (suc i)) past = refl
-padded-past (x ∷ c) zero past = absurd (omega arith)
-padded-past (x ∷ c) (suc i) past = padded-past c i (omega arith)
-
-pub padded_bounded : (c : List ℤ) (s : ℕ) → IsBounded c s → IsBounded (padded c) s
-padded_bounded c s bounded = λ i inside.
-    elim (cases_lt i (length c)) [
-      | inl below ↦ rw (padded-within c i below) (bounded i below)
-      | inr past ↦ rw (padded-past c i past) (omega arith)
-    ]
-
-pub padded_numerators : (c : List ℤ) (k : ℕ) → length c ≡ 4 → bernstein_numerators (padded c) k
-    ≡ bernstein_numerators c k
-padded_numerators [] k h = absurd (omega arith)
-padded_numerators (c0 ∷ []) k h = absurd (omega arith)
-padded_numerators (c0 ∷ c1 ∷ []) k h = absurd (omega arith)
-padded_numerators (c0 ∷ c1 ∷ c2 ∷ []) k h = absurd (omega arith)
-padded_numerators (c0 ∷ c1 ∷ c2 ∷ c3 ∷ []) k h = refl
-padded_numerators (c0 ∷ c1 ∷ c2 ∷ c3 ∷ c4 ∷ c) k h = absurd (omega arith)
 
 pub given_four : (p : List ℤ) (a b c d : ℤ) → length p ≡ 4 → a ≡ get_or p 0 (pos 0) → b ≡ get_or p 1 (pos 0)
     → c ≡ get_or p 2 (pos 0) → d ≡ get_or p 3 (pos 0) → a ∷ b ∷ c ∷ d ∷ pos 0 ∷ pos 0 ∷ [] ≡ padded p

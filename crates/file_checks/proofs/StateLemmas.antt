@@ -1,7 +1,7 @@
 -- The states of a file: whether one is good, how many there are, and where a name leads.
 use Rattle.std.proofs.Common.{◌≡◌, ℕ, ◌<◌, ◌≤◌, Bool, true, false, not, cond, ◌&&◌, nat_le, codes, List, [], map, take}
 use Rattle.std.proofs.Common.{length, get_or, Option, Some, None, is_some, unwrap_or, refl, ap, sym, ◌∙◌, arith}
-use Rattle.std.specs.Prelude.{position, bytes_eq}
+use Rattle.std.specs.Prelude.{position}
 use Rattle.std.proofs.Math.ListN.{get_or-map}
 use Rattle.std.proofs.lemmas.List.{take-map}
 use Rattle.std.proofs.lemmas.Bool.{and_parts, false≢true, leb-true}
@@ -11,8 +11,9 @@ use Rattle.product_file.specs.Checks.{first_failed}
 use Rattle.product_file.specs.Members.{items_of, item_at, is_among, text_of, members_of}
 use Rattle.named_numbers.specs.Numbers.{longest_state_name, most_states, most_states_of_format_1}
 use Rattle.product_file.specs.HeadRules.{is_good_name, is_good_state, state_names, most_states_of, rule_3}
-use Rattle.product_file.specs.HeadRules.{is_format_1, state_of}
+use Rattle.product_file.specs.HeadRules.{is_format_1}
 use Rattle.product_file.specs.TransitionRule.{state_at, state_index}
+use Rattle.product_file.proofs.Heads.{index_inside}
 use Rattle.file_tree.specs.Texts.{text_in}
 use Rattle.file_checks.proofs.Checks.{passed_at}
 
@@ -48,10 +49,6 @@ place_below : (p : List ℕ → Bool) (xs : List (List ℕ)) (o : Option ℕ) �
 place_below p xs None e h = absurd (false≢true h)
 place_below p xs (Some i) e h = (position-Some p xs i [] e).0
 
-pub named-below : (tree : Members) (name : List ℕ) → is_some (state_of tree name) ≡ true
-    → unwrap_or (state_of tree name) 0 < length (state_names tree)
-named-below tree name h = place_below (bytes_eq name) (state_names tree) (state_of tree name) refl h
-
 pub state_index-below : (tree : Members) (key : List ℕ) (d : Data) → is_some (state_at tree key d) ≡ true
     → state_index tree key d < length (state_names tree)
-state_index-below tree key d h = named-below tree (text_of key (members_of d)) h
+state_index-below tree key d h = index_inside tree (text_of key (members_of d)) h

@@ -2,9 +2,9 @@
 use Rattle.std.specs.Prelude.{◌≡◌, ℕ, ◌<◌, codes, List, length, map, Bool, true, ◌&&◌}
 use Rattle.toml.specs.Data.{Data, Members}
 use Rattle.whole_laws.specs.Whole.{natural_part}
-use Rattle.model_specs.specs.RecordRules.{months_of}
+use Rattle.model_specs.specs.RecordRules.{months_of, is_bounded}
 use Rattle.product_file.specs.Members.{whole_of, item_at}
-use Rattle.product_file.specs.CurveRules.{most_coefficients, is_piece, is_in_order, start_of, piece_of, is_bounded}
+use Rattle.product_file.specs.CurveRules.{most_coefficients, is_piece, is_in_order, start_of, piece_of}
 use Rattle.product_file.specs.CurveRules.{months_of_term}
 use Rattle.product_file.specs.PaymentRules.{is_step, step_of, is_bounded_step}
 

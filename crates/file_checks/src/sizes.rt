@@ -4,8 +4,8 @@ ghost use Rattle.std.specs.Prelude.{◌≡◌, ◌≤◌, ◌<◌, ◌++◌, [],
 ghost use Rattle.std.specs.List.{list_all};
 ghost use Rattle.whole_laws.specs.Whole.{places};
 ghost use Rattle.model_specs.specs.MonthNumbers.{bernstein_numerators};
+ghost use Rattle.model_specs.specs.RecordRules.{is_bounded};
 ghost use Rattle.named_numbers.specs.Numbers.{most_months};
-ghost use Rattle.product_file.specs.CurveRules.{is_bounded};
 ghost use Rattle.product_file.specs.PaymentRules.{are_small};
 
 use named_numbers::{BERNSTEIN_UNIT, MOST_AMOUNT, MOST_COEFFICIENT};

@@ -8,14 +8,14 @@ use Rattle.frac_laws.specs.Rounding.{floor_of, ceiling_of}
 use Rattle.frac_laws.proofs.Extremes.{greater_le, le_lesser, product_le, le_product}
 use Rattle.frac_laws.proofs.Linear.{◌⊞◌}
 use Rattle.frac_laws.proofs.Order.{le_refl, le_trans}
-use Rattle.frac_laws.proofs.Quotients.{over_add, over_mul, over_le_of_cross, cross_of_over_le}
+use Rattle.frac_laws.proofs.Quotients.{over_add, over_mul, over_le_of_cross, cross_of_over_le, units_le}
 use Rattle.frac_laws.proofs.RoundingLaws.{floor_low, ceiling_high}
 use Rattle.frac_laws.proofs.WholeProducts as whole
 use Rattle.fixed_interval.specs.declared.interval.Interval.{Interval}
 use Rattle.fixed_interval.specs.Intervals.{LiesIn, LiesInside}
 use Rattle.fixed_interval.specs.Products.{least_product, greatest_product}
-use Rattle.fixed_interval.proofs.Ends.{of_least, of_greatest, least_le_left, least_le_right}
-use Rattle.fixed_interval.proofs.Ends.{left_le_greatest, right_le_greatest}
+use Rattle.whole_laws.proofs.Extremes.{lesser_whole-has, greater_whole-has, least_le_left, least_le_right}
+use Rattle.whole_laws.proofs.Extremes.{left_le_greatest, right_le_greatest}
 
 abbrev units : ℤ → Fraction
 units n = over n (2 ^ 64)
@@ -30,10 +30,6 @@ small_units_le : (n m : ℤ) → n ≤ℤ m → small_units n ≤ℚ small_units
 small_units_le n m h =
     over_le_of_cross n m (2 ^ 64 * 2 ^ 64) (2 ^ 64 * 2 ^ 64) (omega arith) (omega arith)
     (whole.product_le n m (2 ^ 64 * 2 ^ 64) h)
-
-units_le : (n m : ℤ) → n ≤ℤ m → over n (2 ^ 64) ≤ℚ over m (2 ^ 64)
-units_le n m h =
-    over_le_of_cross n m (2 ^ 64) (2 ^ 64) (omega arith) (omega arith) (whole.product_le n m (2 ^ 64) h)
 
 -- ends in order
 pub le_of_units : (n m : ℤ) → over n (2 ^ 64) ≤ℚ over m (2 ^ 64) → n ≤ℤ m
@@ -131,11 +127,11 @@ high_sum n m x y h k = rw (over_add n m (2 ^ 64)) (h ⊞ k)
 
 pub above_both : (n m : ℤ) (x : Fraction) → over n (2 ^ 64) ≤ℚ x → over m (2 ^ 64) ≤ℚ x
     → over (int_max n m) (2 ^ 64) ≤ℚ x
-above_both n m x first second = of_greatest (λ z. over z (2 ^ 64) ≤ℚ x) n m first second
+above_both n m x first second = greater_whole-has (λ z. over z (2 ^ 64) ≤ℚ x) n m first second
 
 pub below_both : (n m : ℤ) (x : Fraction) → x ≤ℚ over n (2 ^ 64) → x ≤ℚ over m (2 ^ 64)
     → x ≤ℚ over (int_min n m) (2 ^ 64)
-below_both n m x first second = of_least (λ z. x ≤ℚ over z (2 ^ 64)) n m first second
+below_both n m x first second = lesser_whole-has (λ z. x ≤ℚ over z (2 ^ 64)) n m first second
 
 -- two intervals share a number where the greater of their lower ends is at most the lesser of their upper ones
 pub ends_meet : (a b : Interval) (x : Fraction) → LiesIn x a → LiesIn x b → int_max a.lo b.lo ≤ℤ int_min a.hi b.hi

@@ -1,5 +1,5 @@
 -- Floors of the least of some numbers, and ceilings of the greatest.
-use Rattle.std.proofs.Common.{◌≡◌, ◌^◌, ℤ, pos, ◌≤ℤ◌, ◌<ℤ◌, ◌∙◌, ap, sym, subst, arith}
+use Rattle.std.proofs.Common.{◌≡◌, ◌^◌, ℤ, pos, ◌≤ℤ◌, ◌<ℤ◌, ◌∙◌, ap, sym, arith}
 use Rattle.std.specs.Int.{int_min, int_max}
 use Rattle.std.proofs.lemmas.Int.{ints, clamps, by_lt_z}
 use Rattle.frac_laws.specs.Rounding.{floor_of, ceiling_of}
@@ -22,29 +22,6 @@ right_is_greatest x y h = omega (arith, ints, clamps)
 
 left_is_greatest : (x y : ℤ) → y ≤ℤ x → int_max x y ≡ x
 left_is_greatest x y h = omega (arith, ints, clamps)
-
--- what holds of two numbers holds of the lesser, and of the greater
-pub of_least : (P : ℤ → Type 0) (x y : ℤ) → P x → P y → P (int_min x y)
-of_least P x y first second = by_lt_z x y
-    (λ less. let h : x ≤ℤ y = omega (arith, ints) in subst P (sym (left_is_least x y h)) first)
-    (λ h. subst P (sym (right_is_least x y h)) second)
-
-pub of_greatest : (P : ℤ → Type 0) (x y : ℤ) → P x → P y → P (int_max x y)
-of_greatest P x y first second = by_lt_z x y
-    (λ less. let h : x ≤ℤ y = omega (arith, ints) in subst P (sym (right_is_greatest x y h)) second)
-    (λ h. subst P (sym (left_is_greatest x y h)) first)
-
-pub least_le_left : (x y : ℤ) → int_min x y ≤ℤ x
-least_le_left x y = omega (arith, ints, clamps)
-
-pub least_le_right : (x y : ℤ) → int_min x y ≤ℤ y
-least_le_right x y = omega (arith, ints, clamps)
-
-pub left_le_greatest : (x y : ℤ) → x ≤ℤ int_max x y
-left_le_greatest x y = omega (arith, ints, clamps)
-
-pub right_le_greatest : (x y : ℤ) → y ≤ℤ int_max x y
-right_le_greatest x y = omega (arith, ints, clamps)
 
 pub floor-min : (x y : ℤ)
     → floor_of (int_min x y) (pos (2 ^ 64)) ≡ int_min (floor_of x (pos (2 ^ 64))) (floor_of y (pos (2 ^ 64)))

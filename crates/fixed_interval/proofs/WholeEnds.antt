@@ -1,5 +1,5 @@
 -- Whole ends: numbers times 4^g over 2^64, as a shift or a product, and how far their floor and ceiling lie apart.
-use Rattle.std.proofs.Common.{◌≡◌, ℕ, ◌+◌, ◌-◌, ◌*◌, ◌^◌, ◌<◌, ◌≤◌, FitsSigned, ℤ, pos, negsuc, ◌+ℤ◌, ◌-ℤ◌, ◌*ℤ◌, ◌≤ℤ◌}
+use Rattle.std.proofs.Common.{◌≡◌, ℕ, ◌+◌, ◌-◌, ◌*◌, ◌^◌, ◌<◌, ◌≤◌, FitsSigned, ℤ, pos, ◌+ℤ◌, ◌-ℤ◌, ◌*ℤ◌, ◌≤ℤ◌}
 use Rattle.std.proofs.Common.{◌<ℤ◌, [], ◌∷◌, refl, ap, sym, ◌∙◌, arith}
 use Rattle.std.specs.Prelude.{unsigned_abs}
 use Rattle.std.specs.Int.{w128, int_shr, div_ceil}
@@ -14,6 +14,7 @@ use Rattle.frac_laws.proofs.FractionTerms.{ring, terms}
 use Rattle.frac_laws.proofs.Order.{le_trans, le_of_equal}
 use Rattle.frac_laws.proofs.RoundingLaws.{floor-common_factor, floor-multiple, floor_high, ceiling_low}
 use Rattle.frac_laws.proofs.WholeProducts.{product-product, product_le, sum-product}
+use Rattle.frac_laws.proofs.Floors.{shift-floor}
 use Rattle.fixed_interval.specs.declared.printed.Printed.{Printed}
 use Rattle.fixed_interval.specs.Printing.{LiesBetweenIn}
 
@@ -22,10 +23,6 @@ four_two : (g : ℕ) → 4 ^ g ≡ 2 ^ (2 * g)
 four_two g =
     let twice : g + g ≡ 2 * g = omega arith in
     mul-pow 2 2 g ∙ sym (pow-add 2 g g) ∙ ap (λ k. 2 ^ k) twice
-
-shift-floor : (z : ℤ) (k : ℕ) → int_shr z k ≡ floor_of z (pos (2 ^ k))
-shift-floor (pos n) k = refl
-shift-floor (negsuc n) k = refl
 
 -- below 2^32 it is a shift to the right
 pub shifted_whole : (v : ℤ) (g : ℕ) → g < 32 → int_shr v (64 - 2 * g) ≡ floor_of (v *ℤ pos (4 ^ g)) (pos (2 ^ 64))

@@ -1,6 +1,6 @@
 -- Shifts to the right as floors.
 use Rattle.std.proofs.Common.{◌≡◌, ℕ, ◌+◌, ◌-◌, ◌*◌, ◌/◌, ◌^◌, ◌<◌, ◌≤◌, ℤ, pos, negsuc, ◌*ℤ◌}
-use Rattle.std.proofs.Common.{ap, sym, refl, ◌∙◌, arith}
+use Rattle.std.proofs.Common.{ap, sym, ◌∙◌, arith}
 use Rattle.std.specs.Prelude.{unsigned_abs}
 use Rattle.std.specs.Int.{int_shr}
 use Rattle.std.proofs.lemmas.Nat.{pow-add, pow_pos, shr-shr, shr_le, shr_below}
@@ -8,10 +8,7 @@ use Rattle.std.proofs.Math.Nat.{div-div-eq-div-mul}
 use Rattle.frac_laws.specs.Rounding.{floor_of}
 use Rattle.frac_laws.proofs.WholeProducts.{product-product}
 use Rattle.frac_laws.proofs.RoundingLaws.{floor-common_factor}
-
-pub shift-floor : (z : ℤ) (k : ℕ) → int_shr z k ≡ floor_of z (pos (2 ^ k))
-shift-floor (pos n) k = refl
-shift-floor (negsuc n) k = refl
+use Rattle.frac_laws.proofs.Floors.{shift-floor}
 
 factor : (g : ℕ) → 15625 * 2 ^ (g + 6) ≡ 2 ^ g * 10 ^ 6
 factor g = omega (arith, pow-add 2 g 6)

@@ -6,9 +6,10 @@ use Rattle.std.specs.Prelude.{unsigned_abs}
 use Rattle.std.specs.Int.{w128}
 use Rattle.std.proofs.Math.Seq.{drop-cons}
 use Rattle.std.proofs.Math.IntN.{+ℤ_assoc, +ℤ_idr}
-use Rattle.std.proofs.lemmas.Int.{ints, unsigned_abs-mul, fits_signed_from_abs}
+use Rattle.std.proofs.lemmas.Int.{unsigned_abs-mul, fits_signed_from_abs}
 use Rattle.std.proofs.lemmas.List.{drop_all, get_or-map}
 use Rattle.fixed_num.specs.Products.{sum_of_products, sum_of_sizes, items_at}
+use Rattle.whole_laws.proofs.Numbers.{size_of_sum}
 
 -- the sum of the first i products: with the products that are left it is the whole sum
 pub record IsPartialSum (xs factors : List ℤ) (i : ℕ) (sum : ℤ) : Type 0 where
@@ -31,10 +32,6 @@ sum_of_sizes-drop : (xs factors : List ℤ) (i : ℕ) → i < length xs → i < 
 sum_of_sizes-drop xs factors i in_xs in_factors =
     let size = unsigned_abs-mul (get_or xs i (pos 0)) (get_or factors i (pos 0)) in
     rw (size, add-one, drop-cons xs i (pos 0) in_xs, drop-cons factors i (pos 0) in_factors) refl
-
--- the size of a sum is at most the sum of the sizes
-pub size_of_sum : (s t : ℤ) → unsigned_abs (s +ℤ t) ≤ unsigned_abs s + unsigned_abs t
-size_of_sum s t = grind (arith, ints)
 
 fits_by_size : (z : ℤ) (m : ℕ) → unsigned_abs z ≤ m → m < 2 ^ 126 → FitsSigned w128 z
 fits_by_size z m within small = fits_signed_from_abs w128 z (omega arith)

@@ -79,3 +79,10 @@ convolution_total_le n {a} {b} ha hb =
     each : (m : ℕ) → m < n → a m *ℚ sum_to (n - m) b ≤ℚ a m *ℚ sum_to n b
     each m h = linear (a m ∷ sum_to (n - m) b ∷ sum_to n b ∷ [])
         (ha m ⊠ sum_to_longer (n - m) n (λ k c. hb k) (omega arith)) (hlevel claims) refl
+
+-- a sum convolved
+pub convolution-add_left : (a b c : ℕ → Fraction) (k : ℕ)
+    → convolution (λ m. a m +ℚ b m) c k ≡ convolution a c k +ℚ convolution b c k
+convolution-add_left a b c k =
+    sum_to_ext (suc k) (λ m _. ring (a m ∷ b m ∷ c (k - m) ∷ []) (hlevel terms) refl)
+    ∙ sum_to_add (suc k) (λ m. a m *ℚ c (k - m)) (λ m. b m *ℚ c (k - m))

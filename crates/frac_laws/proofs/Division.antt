@@ -6,9 +6,10 @@ use Rattle.frac_laws.specs.Sums.{sum_to}
 use Rattle.frac_laws.proofs.FractionTerms.{ring, terms}
 use Rattle.frac_laws.proofs.Linear.{linear, linear_lt, equal, claims, natural, ◌⊞◌, ◌⊠◌, ◌·◌}
 use Rattle.frac_laws.proofs.Positive.{over_positive, mul_lt}
-use Rattle.frac_laws.proofs.Quotients.{inverse, over_mul, times_one}
+use Rattle.frac_laws.proofs.Quotients.{inverse, over_mul}
 use Rattle.frac_laws.proofs.Sizes.{size_mul, size_of_natural}
 use Rattle.frac_laws.proofs.Sums.{sum_to_scale_right}
+use Rattle.frac_base.proofs.WholeRing.{mul_one}
 
 pub times_divided : (x : Fraction) (d : ℕ) → 1 ≤ d → whole (pos d) *ℚ divided_by x d ≡ x
 times_divided x d a =
@@ -25,7 +26,7 @@ pub divided_mul : (x y : Fraction) (d : ℕ) → divided_by (x *ℚ y) d ≡ x *
 divided_mul x y d = ring (x ∷ y ∷ over (pos 1) d ∷ []) (hlevel terms) refl
 
 pub divided_over : (n : ℤ) (d e : ℕ) → 1 ≤ d → 1 ≤ e → divided_by (over n d) e ≡ over n (d * e)
-divided_over n d e a b = over_mul n (pos 1) d e a b ∙ ap (λ z. over z (d * e)) (times_one n)
+divided_over n d e a b = over_mul n (pos 1) d e a b ∙ ap (λ z. over z (d * e)) (mul_one n)
 
 pub divided_sum : (n d : ℕ) (f : ℕ → Fraction)
     → sum_to n (λ k. divided_by (f k) d) ≡ divided_by (sum_to n f) d

@@ -1,17 +1,19 @@
 -- The floor and the ceiling of a quotient of whole numbers, as fractions.
 use Rattle.std.specs.Prelude.{ℕ, pos, ℤ, ◌+ℤ◌, neg_ℤ, ◌≤ℤ◌, ◌<ℤ◌, ◌≤◌}
 use Rattle.std.specs.Prelude.{[], ◌∷◌}
-use Rattle.std.proofs.Common.{refl, arith}
+use Rattle.std.proofs.Common.{refl, arith, ◌≡◌, ◌-◌, ◌^◌, negsuc}
 use Rattle.std.proofs.lemmas.Int.{ints}
+use Rattle.std.specs.Int.{int_shr}
 use Rattle.frac_laws.specs.Fraction.{over, whole, ◌+ℚ◌, ◌-ℚ◌, ◌≤ℚ◌, ◌<ℚ◌}
 use Rattle.frac_laws.specs.Rounding.{floor_of, ceiling_of}
 use Rattle.frac_laws.proofs.Linear.{linear, linear_lt, claims}
 use Rattle.frac_laws.proofs.RoundingLaws.{floor_low, floor_high}
 use Rattle.frac_laws.proofs.WholeProducts.{next-product}
-use Rattle.frac_laws.proofs.Quotients.{times_one, over_le_of_cross, over_lt_of_cross, over-opposite}
+use Rattle.frac_laws.proofs.Quotients.{over_le_of_cross, over_lt_of_cross, over-opposite}
 use Rattle.frac_laws.proofs.Quotients.{whole_add}
 use Rattle.frac_laws.proofs.Quotients.{whole-opposite, lt_of_whole}
 use Rattle.frac_laws.proofs.Order.{le_lt_trans}
+use Rattle.frac_base.proofs.WholeRing.{mul_one}
 
 positive : (d : ℕ) → 1 ≤ d → pos 0 <ℤ pos d
 positive d a = omega (arith, ints)
@@ -19,13 +21,13 @@ positive d a = omega (arith, ints)
 -- floor(n / d) is at most n / d
 pub floor_le : (n : ℤ) (d : ℕ) → 1 ≤ d → whole (floor_of n (pos d)) ≤ℚ over n d
 floor_le n d a = over_le_of_cross (floor_of n (pos d)) n 1 d (omega arith) a
-    (rw (times_one n) (floor_low n (pos d) (positive d a)))
+    (rw (mul_one n) (floor_low n (pos d) (positive d a)))
 
 -- n / d is below floor(n / d) + 1
 pub lt_next : (n : ℤ) (d : ℕ) → 1 ≤ d → over n d <ℚ whole (floor_of n (pos d)) +ℚ whole (pos 1)
 lt_next n d a = rw (← whole_add (floor_of n (pos d)) (pos 1))
     (over_lt_of_cross n (floor_of n (pos d) +ℤ pos 1) d 1 a (omega arith)
-    (rw (times_one n, next-product (floor_of n (pos d)) d) (floor_high n (pos d) (positive d a))))
+    (rw (mul_one n, next-product (floor_of n (pos d)) d) (floor_high n (pos d) (positive d a))))
 
 -- n / d is at most ceiling(n / d)
 pub le_ceiling : (n : ℤ) (d : ℕ) → 1 ≤ d → over n d ≤ℚ whole (ceiling_of n (pos d))
@@ -54,3 +56,8 @@ ceiling_least n m d a h = opposite_order (floor_of (neg_ℤ n) (pos d)) m
   where
     opposite_order : (f m : ℤ) → neg_ℤ m ≤ℤ f → neg_ℤ f ≤ℤ m
     opposite_order f m h = omega (arith, ints)
+
+-- a shift to the right is the floor of the quotient
+pub shift-floor : (z : ℤ) (k : ℕ) → int_shr z k ≡ floor_of z (pos (2 ^ k))
+shift-floor (pos n) k = refl
+shift-floor (negsuc n) k = refl

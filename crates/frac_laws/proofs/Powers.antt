@@ -1,12 +1,14 @@
 -- Powers, and the sum of the powers of one number.
-use Rattle.std.specs.Prelude.{◌≡◌, ℕ, suc, zero, pos, [], ◌∷◌, ◌+◌}
+use Rattle.std.specs.Prelude.{◌≡◌, ℕ, suc, zero, pos, [], ◌∷◌, ◌+◌, ◌-◌, ◌*◌, ◌^◌}
 use Rattle.std.proofs.Common.{refl, ap, ◌∙◌, arith}
+use Rattle.std.proofs.Math.Nat.{pow-zero, pow-suc}
 use Rattle.frac_laws.specs.Fraction.{Fraction, whole, size, ◌+ℚ◌, ◌*ℚ◌, ◌-ℚ◌, ◌≤ℚ◌}
 use Rattle.frac_laws.specs.Sums.{sum_to, power}
 use Rattle.frac_laws.proofs.FractionTerms.{ring, terms}
 use Rattle.frac_laws.proofs.Order.{le_refl, le_trans, le_of_equal}
 use Rattle.frac_laws.proofs.Linear.{linear, claims, natural, ◌⊞◌, ◌⊠◌}
 use Rattle.frac_laws.proofs.Sizes.{size_of_natural, size_mul}
+use Rattle.frac_laws.proofs.Quotients.{whole_mul}
 
 pub power_add : (x : Fraction) (n m : ℕ) → power x (n + m) ≡ power x n *ℚ power x m
 power_add x zero m = (let e : 0 + m ≡ m = omega arith in ap (power x) e)
@@ -60,3 +62,10 @@ geometric_bound q n h = rw (geometric_sum q n)
 pub power_le_one : {x : Fraction} (n : ℕ) → whole (pos 0) ≤ℚ x → x ≤ℚ whole (pos 1)
     → power x n ≤ℚ whole (pos 1)
 power_le_one {x} n h k = le_trans (power_mono n h k) (le_of_equal (power_one n))
+
+-- a power of a whole number
+pub whole_power : (k n : ℕ) → whole (pos (k ^ n)) ≡ power (whole (pos k)) n
+whole_power k zero = rw (pow-zero k) refl
+whole_power k (suc n) = rw (pow-suc k n) (whole_mul (pos (k ^ n)) (pos k)
+    ∙ ap (λ z. z *ℚ whole (pos k)) (whole_power k n)
+    ∙ ring (whole (pos k) ∷ power (whole (pos k)) n ∷ []) (hlevel terms) refl)

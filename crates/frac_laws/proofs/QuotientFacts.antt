@@ -1,11 +1,14 @@
 -- The laws of quotients in the form of their statements.
-use Rattle.std.proofs.Common.{sym}
+use Rattle.std.proofs.Common.{sym, ◌≡◌, ℕ, pos, [], ◌∷◌, refl, ◌∙◌}
 use Rattle.frac_laws.specs.QuotientLaws.{QuotientsCompareByCross, QuotientsAreBelowByCross}
 use Rattle.frac_laws.specs.QuotientLaws.{QuotientsAreEqualByCross}
 use Rattle.frac_laws.specs.QuotientLaws.{QuotientsAddOverOneDivisor, QuotientsAdd, QuotientsMultiply}
 use Rattle.frac_laws.specs.QuotientLaws.{QuotientsHaveOpposites}
 use Rattle.frac_laws.specs.QuotientLaws.{QuotientsCancel, QuotientsTimesDivisor, WholeNumbersCompare}
 use Rattle.frac_laws.specs.QuotientLaws.{WholeNumbersAdd, WholeNumbersMultiply}
+use Rattle.frac_laws.specs.Fraction.{over, whole}
+use Rattle.frac_laws.proofs.FractionTerms.{ring, terms}
+use Rattle.frac_laws.proofs.Quotients.{over_is}
 use Rattle.frac_laws.proofs.Quotients as Q
 
 pub compare_by_cross : QuotientsCompareByCross
@@ -43,3 +46,7 @@ whole_sum n m = sym (Q.whole_add n m)
 
 pub whole_product : WholeNumbersMultiply
 whole_product n m = sym (Q.whole_mul n m)
+
+-- nothing over anything
+pub over-zero : (d : ℕ) → over (pos 0) d ≡ whole (pos 0)
+over-zero d = over_is (pos 0) d ∙ ring (over (pos 1) d ∷ []) (hlevel terms) refl

@@ -2,18 +2,21 @@
 -- products.
 use Rattle.std.specs.Prelude.{◌≡◌, ℕ, suc, zero, pred, pos, ℤ, ◌+ℤ◌, ◌-ℤ◌, ◌*ℤ◌, neg_ℤ, ◌≤ℤ◌, ◌<ℤ◌, ◌≤◌, ◌*◌}
 use Rattle.std.specs.Prelude.{true, [], ◌∷◌}
-use Rattle.std.proofs.Common.{refl, ap, sym, ◌∙◌, arith}
+use Rattle.std.proofs.Common.{refl, ap, sym, ◌∙◌, arith, ◌^◌}
 use Rattle.std.proofs.lemmas.Int.{ints}
 use mathlib.Core.Path.{ap₂}
 use mathlib.Core.Quot.{mk, sound}
 use Rattle.frac_base.specs.Pair.{Pair, Same, bottom, is_natural}
 use Rattle.frac_base.proofs.Respect.{bottoms}
+use Rattle.frac_base.proofs.WholeRing.{mul_one}
 use Rattle.frac_base.proofs.WholeTerms as W
 use Rattle.frac_laws.specs.Fraction.{Fraction, over, whole, opposite, is_not_negative}
 use Rattle.frac_laws.specs.Fraction.{◌+ℚ◌, ◌*ℚ◌, ◌-ℚ◌, ◌≤ℚ◌, ◌<ℚ◌}
 use Rattle.frac_laws.proofs.FractionRing.{mk-product_of}
 use Rattle.frac_laws.proofs.FractionTerms.{ring, terms}
 use Rattle.frac_laws.proofs.Order.{le_of_equal, not_le_of_lt, lt_of_not_le}
+use Rattle.frac_laws.proofs.WholeProducts.{product_le}
+use Rattle.whole_laws.proofs.Numbers.{whole_antisym}
 
 difference : (n m : ℤ) → is_natural (m +ℤ neg_ℤ n) ≡ true → n ≤ℤ m
 difference n m h = grind (arith, ints)
@@ -44,9 +47,6 @@ cross_of_lt p q h = lt_of_not_le_whole _ _ (λ k. not_le_of_lt h (le_of_cross q 
 
 pub lt_of_cross : (p q : Pair) → (p.top *ℤ bottom q) <ℤ (q.top *ℤ bottom p) → mk p <ℚ mk q
 lt_of_cross p q h = lt_of_not_le (λ k. not_le_of_lt_whole h (cross_of_le q p k))
-
-whole_antisym : (n m : ℤ) → n ≤ℤ m → m ≤ℤ n → n ≡ m
-whole_antisym n m h k = omega (arith, ints)
 
 -- equal fractions have equal cross products
 pub same_of_equal : (p q : Pair) → ◌≡◌ {A = Fraction} (mk p) (mk q) → Same p q
@@ -152,20 +152,17 @@ pub whole_suc : (n : ℕ) → whole (pos (suc n)) ≡ whole (pos 1) +ℚ whole (
 whole_suc n = (let e : pos (suc n) ≡ pos 1 +ℤ pos n = omega (arith, ints) in ap whole e)
     ∙ whole_add (pos 1) (pos n)
 
-pub times_one : (n : ℤ) → n *ℤ pos 1 ≡ n
-times_one n = W.ring (n ∷ []) (hlevel W.terms) refl
-
 pub whole_le : {n m : ℤ} → n ≤ℤ m → whole n ≤ℚ whole m
-whole_le {n} {m} h = le_of_cross (pair n 1) (pair m 1) (rw (times_one n, times_one m) h)
+whole_le {n} {m} h = le_of_cross (pair n 1) (pair m 1) (rw (mul_one n, mul_one m) h)
 
 pub le_of_whole : {n m : ℤ} → whole n ≤ℚ whole m → n ≤ℤ m
-le_of_whole {n} {m} h = rw (times_one n, times_one m) at (cross_of_le (pair n 1) (pair m 1) h)
+le_of_whole {n} {m} h = rw (mul_one n, mul_one m) at (cross_of_le (pair n 1) (pair m 1) h)
 
 pub whole_lt : {n m : ℤ} → n <ℤ m → whole n <ℚ whole m
-whole_lt {n} {m} h = lt_of_cross (pair n 1) (pair m 1) (rw (times_one n, times_one m) h)
+whole_lt {n} {m} h = lt_of_cross (pair n 1) (pair m 1) (rw (mul_one n, mul_one m) h)
 
 pub lt_of_whole : {n m : ℤ} → whole n <ℚ whole m → n <ℤ m
-lt_of_whole {n} {m} h = rw (times_one n, times_one m) at (cross_of_lt (pair n 1) (pair m 1) h)
+lt_of_whole {n} {m} h = rw (mul_one n, mul_one m) at (cross_of_lt (pair n 1) (pair m 1) h)
 
 -- d times n / d
 pub times_over : (n : ℤ) (d : ℕ) → 1 ≤ d → whole (pos d) *ℚ over n d ≡ whole n
@@ -186,4 +183,8 @@ over_is n zero = over_is_one n
     over_is_one : (n : ℤ) → whole n ≡ whole n *ℚ whole (pos 1)
     over_is_one n = ring (whole n ∷ []) (hlevel terms) refl
 over_is n (suc d) = sym (over_mul n (pos 1) 1 (suc d) (omega arith) (omega arith)
-    ∙ ap₂ over (times_one n) (let e : 1 * suc d ≡ suc d = omega arith in e))
+    ∙ ap₂ over (mul_one n) (let e : 1 * suc d ≡ suc d = omega arith in e))
+
+-- numbers in order, in units of 2^-64
+pub units_le : (a b : ℤ) → a ≤ℤ b → over a (2 ^ 64) ≤ℚ over b (2 ^ 64)
+units_le a b h = over_le_of_cross a b (2 ^ 64) (2 ^ 64) (omega arith) (omega arith) (product_le a b (2 ^ 64) h)

@@ -1,5 +1,5 @@
 -- The laws of sums over a range and over a list.
-use Rattle.std.specs.Prelude.{◌≡◌, ℕ, suc, zero, pos, List, [], ◌∷◌, ◌++◌, map, ◌<◌, ◌≤◌, ◌+◌, ◌⊎◌}
+use Rattle.std.specs.Prelude.{◌≡◌, ℕ, suc, zero, pos, List, [], ◌∷◌, ◌++◌, map, ◌<◌, ◌≤◌, ◌+◌}
 use Rattle.std.proofs.Common.{refl, ap, sym, ◌∙◌, arith, inl, inr}
 use mathlib.Core.Path.{ap₂}
 use Rattle.frac_laws.specs.Fraction.{Fraction, whole, ◌+ℚ◌, ◌*ℚ◌, ◌-ℚ◌, ◌≤ℚ◌, size}
@@ -8,6 +8,7 @@ use Rattle.frac_laws.proofs.FractionTerms.{ring, terms}
 use Rattle.frac_laws.proofs.Order.{le_refl, le_trans, le_of_equal, add_mono}
 use Rattle.frac_laws.proofs.Linear.{linear, claims, ◌⊞◌}
 use Rattle.frac_laws.proofs.Sizes.{size_of_natural, size_add}
+use Rattle.whole_laws.proofs.Numbers.{at_most_or_next}
 
 -- terms that are equal below n
 pub sum_to_ext : (n : ℕ) {f g : ℕ → Fraction} → ((k : ℕ) → k < n → f k ≡ g k) → sum_to n f ≡ sum_to n g
@@ -72,14 +73,11 @@ pub sum_to_natural : (n : ℕ) {f : ℕ → Fraction} → ((k : ℕ) → k < n �
     → whole (pos 0) ≤ℚ sum_to n f
 sum_to_natural n h = le_trans (le_of_equal (sym (sum_to_zero n))) (sum_to_mono n h)
 
-last_or : (n m : ℕ) → n ≤ suc m → (n ≤ m) ⊎ (n ≡ suc m)
-last_or n m b = grind arith
-
 -- more terms that are not negative
 pub sum_to_longer : (n m : ℕ) {f : ℕ → Fraction} → ((k : ℕ) → k < m → whole (pos 0) ≤ℚ f k) → n ≤ m
     → sum_to n f ≤ℚ sum_to m f
 sum_to_longer n zero h b = let e : n ≡ 0 = omega arith in rw e (le_refl _)
-sum_to_longer n (suc m) {f} h b = elim (last_or n m b) [
+sum_to_longer n (suc m) {f} h b = elim (at_most_or_next n m b) [
   | inl c ↦ linear (sum_to n f ∷ sum_to m f ∷ f m ∷ [])
       (sum_to_longer n m {f = f} (λ k d. h k (omega arith)) c ⊞ h m (omega arith)) (hlevel claims) refl
   | inr e ↦ rw e (le_refl _)

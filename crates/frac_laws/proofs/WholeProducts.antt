@@ -4,6 +4,7 @@ use Rattle.std.proofs.Common.{ℤ, pos, negsuc, neg_ℤ, ◌+ℤ◌, ◌*ℤ◌,
 use Rattle.std.proofs.lemmas.Int.{ints, by_lt_z}
 use Rattle.std.proofs.Math.IntN.{pos-*ℤ-pos, negsuc-*ℤ-pos}
 use Rattle.std.proofs.Math.Nat.{mul_comm}
+use Rattle.whole_laws.proofs.Numbers.{nat_product_le}
 use borrow.Author.Differences.{up, down}
 
 pub up-product : (a : ℤ) (d : ℕ) → up (a *ℤ pos d) ≡ up a * d
@@ -51,9 +52,6 @@ neg-product a d =
     let opposite : up (neg_ℤ a) + up a ≡ down (neg_ℤ a) + down a = omega (arith, ints) in
     let product = ap (λ n. n * d) opposite in
     omega (arith, ints, up-product a d, down-product a d, up-product (neg_ℤ a) d, down-product (neg_ℤ a) d)
-
-nat_product_le : (a b d : ℕ) → a ≤ b → a * d ≤ b * d
-nat_product_le a b d order = grind arith
 
 -- a factor that is a natural number keeps the order
 pub product_le : (a b : ℤ) (d : ℕ) → a ≤ℤ b → (a *ℤ pos d) ≤ℤ (b *ℤ pos d)

@@ -15,10 +15,10 @@ use Rattle.model_specs.specs.ValuationRules.{IsAdmissible}
 use Rattle.ledger_laws.proofs.MonthFacts.{admissible_obeys}
 use Rattle.ledger_laws.proofs.GrowthFacts.{radii_small_inside}
 use Rattle.linear_system.specs.DegreeLimit.{IsConstant}
-use Rattle.linear_system.specs.StandsFor.{StandsFor}
+use Rattle.linear_system.specs.StandsFor.{StandsFor, in_units}
 use Rattle.linear_system.specs.StoredSystem.{StoredSystem, dim_of}
 use Rattle.taylor_step.specs.CanStep.{CanStep, in_sum}
-use Rattle.taylor_step.specs.Enclosures.{Encloses, in_units}
+use Rattle.taylor_step.specs.Enclosures.{Encloses}
 use Rattle.product_cells.specs.EachCell.{forward_cell}
 use Rattle.probability_laws.specs.ProbabilityLaws.{probabilities_after}
 use Rattle.sweep_laws.specs.ScaledSteps.{IsTameStep}

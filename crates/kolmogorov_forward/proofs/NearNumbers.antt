@@ -1,5 +1,5 @@
 -- Whole numbers in units of 2^-64 near a vector, their sizes added up.
-use Rattle.std.specs.Prelude.{◌≡◌, ℕ, zero, suc, pos, negsuc, ◌^◌, ◌<◌, ◌≤◌, ℤ, unsigned_abs, sum_by, List, [], ◌∷◌}
+use Rattle.std.specs.Prelude.{◌≡◌, ℕ, zero, suc, pos, ◌^◌, ◌<◌, ◌≤◌, ℤ, unsigned_abs, sum_by, List, [], ◌∷◌}
 use Rattle.std.specs.Prelude.{length, slice_index_or}
 use Rattle.std.proofs.Common.{refl, ap, sym, ◌∙◌, arith}
 use Rattle.std.proofs.lemmas.Int.{ints}
@@ -13,28 +13,22 @@ use Rattle.frac_laws.proofs.FractionTerms.{ring, terms}
 use Rattle.frac_laws.proofs.Linear.{linear, claims, natural, ◌⊞◌, ◌⊠◌}
 use Rattle.frac_laws.proofs.Norms.{number_below_norm, size_zero}
 use Rattle.frac_laws.proofs.Order.{le_trans, le_of_equal}
-use Rattle.frac_laws.proofs.Quotients.{cross_of_over_le, over_add, over-opposite}
-use Rattle.frac_laws.proofs.Sizes.{size_add, size_sub, size_of_natural, size-opposite}
+use Rattle.frac_laws.proofs.Quotients.{cross_of_over_le, over_add}
+use Rattle.frac_laws.proofs.Sizes.{size_add, size_sub, size_of_natural}
 use Rattle.frac_laws.proofs.Vectors.{number_at-subtract_lists}
-use Rattle.cell_coeffs.proofs.Near.{abs_of_size}
-use Rattle.product_cells.proofs.ProductCurves.{over_none}
+use Rattle.frac_laws.proofs.SizeFacts.{size-over, abs_of_size}
+use Rattle.frac_laws.proofs.QuotientFacts.{over-zero}
 use Rattle.step_laws.proofs.Distances.{norm_by_distance}
 use Rattle.sweep_laws.specs.SweepLaws.{units}
 use Rattle.sweep_laws.proofs.Sweeps.{units-order}
-use Rattle.taylor_step.specs.Enclosures.{in_units}
-use Rattle.thiele_backward.proofs.NearNumbers.{at-units}
 use Rattle.kolmogorov_forward.specs.MonthRuns.{AreWithin}
-
-size-over : (z : ℤ) (d : ℕ) → size (over z d) ≡ over (pos (unsigned_abs z)) d
-size-over (pos n) d = size_of_natural (natural n d)
-size-over (negsuc n) d =
-    sym (size-opposite (over (negsuc n) d)) ∙ ap size (sym (over-opposite (negsuc n) d))
-    ∙ size_of_natural (natural (suc n) d)
+use Rattle.linear_system.specs.StandsFor.{in_units}
+use Rattle.linear_system.proofs.NumbersInUnits.{at-units}
 
 -- the sizes of whole numbers add up to the norm of the numbers that they are units of
 sizes-units : (numbers : List ℤ)
     → norm_of_vector Sum (in_units numbers) ≡ over (pos (sum_by unsigned_abs numbers)) (2 ^ 64)
-sizes-units [] = sym (over_none (2 ^ 64))
+sizes-units [] = sym (over-zero (2 ^ 64))
 sizes-units (z ∷ numbers) =
     ap₂ ◌+ℚ◌ (size-over z (2 ^ 64)) (sizes-units numbers)
     ∙ sym (over_add (pos (unsigned_abs z)) (pos (sum_by unsigned_abs numbers)) (2 ^ 64))

@@ -13,13 +13,13 @@ use Rattle.frac_laws.proofs.Linear.{natural}
 use Rattle.frac_laws.proofs.Norms.{norm-same}
 use Rattle.frac_laws.proofs.Order.{le_trans, le_of_equal}
 use Rattle.frac_laws.proofs.Vectors.{number_at-subtract_lists}
+use Rattle.frac_laws.proofs.QuotientFacts.{over-zero}
 use Rattle.model_specs.specs.Product.{Product}
 use Rattle.model_specs.specs.Runs.{probability, probabilities}
 use Rattle.whole_laws.proofs.ListsByPlace.{at-list_of, past-list_of}
-use Rattle.product_cells.proofs.ProductCurves.{over_none}
-use Rattle.taylor_step.specs.Enclosures.{in_units}
-use Rattle.thiele_backward.proofs.NearNumbers.{at-units, past-units}
 use Rattle.kolmogorov_forward.specs.MonthRuns.{AreNearAt}
+use Rattle.linear_system.specs.StandsFor.{in_units}
+use Rattle.linear_system.proofs.NumbersInUnits.{at-units, past-units}
 
 -- 1 in the start state and 0 in the others
 abbrev pub start_number : Product → ℕ → ℕ
@@ -54,7 +54,7 @@ number-is product state inside = elim (eqb_tells state product.start) [
       (rw (length-replicate (length product.states) (pos 0), ← same.1) inside)) ∙ one)
   | inr other ↦ rw other.0 (ap (λ (z : ℤ). over z (2 ^ 64))
       (get_or-set_other zeros product.start state (pos (2 ^ 64)) (pos 0) other.1
-      ∙ get_or-replicate (length product.states) state (pos 0) (pos 0) inside) ∙ over_none (2 ^ 64))
+      ∙ get_or-replicate (length product.states) state (pos 0) (pos 0) inside) ∙ over-zero (2 ^ 64))
 ]
   where
     zeros : List ℤ

@@ -9,9 +9,9 @@ use Rattle.model_specs.specs.Product.{Product}
 use Rattle.model_specs.specs.Growth.{kappa40}
 use Rattle.model_specs.specs.Ledgers.{grow_cells, radius_forward}
 use Rattle.model_specs.specs.Runs.{probabilities}
-use Rattle.taylor_step.specs.Enclosures.{in_units}
 use Rattle.probability_laws.specs.ProbabilityLaws.{probabilities_after}
 use Rattle.sweep_laws.specs.SweepLaws.{units}
+use Rattle.linear_system.specs.StandsFor.{in_units}
 
 -- the radius after some cells of a month, in units of 2^-64
 abbrev pub radius_in : Product → ℕ → ℕ → ℕ

@@ -57,7 +57,7 @@ load_most b m h = within (greatest_natural (map unsigned_abs b)) (natural_part (
 abbrev sixfold : ℤ → List ℤ
 sixfold z = z ∷ z ∷ z ∷ z ∷ z ∷ z ∷ []
 
-six_alike : (f : ℕ → ℤ) (z : ℤ) → f 0 ≡ z → f 1 ≡ z → f 2 ≡ z → f 3 ≡ z → f 4 ≡ z → f 5 ≡ z
+pub six_alike : (f : ℕ → ℤ) (z : ℤ) → f 0 ≡ z → f 1 ≡ z → f 2 ≡ z → f 3 ≡ z → f 4 ≡ z → f 5 ≡ z
     → f 0 ∷ f 1 ∷ f 2 ∷ f 3 ∷ f 4 ∷ f 5 ∷ [] ≡ sixfold z
 six_alike f z a b c d e g = ap₂ (λ x xs. x ∷ xs) a (ap₂ (λ x xs. x ∷ xs) b (ap₂ (λ x xs. x ∷ xs) c
     (ap₂ (λ x xs. x ∷ xs) d (ap₂ (λ x xs. x ∷ xs) e (ap (λ x. x ∷ []) g)))))
@@ -65,7 +65,7 @@ six_alike f z a b c d e g = ap₂ (λ x xs. x ∷ xs) a (ap₂ (λ x xs. x ∷ x
 abbrev constant : ℕ → List ℤ
 constant a = pos a ∷ pos 0 ∷ pos 0 ∷ pos 0 ∷ []
 
-constant_numerators : (a k : ℕ) → bernstein_numerators (constant a) k ≡ sixfold (pos (2488320 * a))
+pub constant_numerators : (a k : ℕ) → bernstein_numerators (constant a) k ≡ sixfold (pos (2488320 * a))
 constant_numerators a k = six_alike (bernstein_numerator (constant a) k) (pos (2488320 * a))
     (rw (pow-zero k) (ap (λ n. pos n) (omega arith)))
     (rw (pow-zero k) (ap (λ n. pos n) (omega arith)))

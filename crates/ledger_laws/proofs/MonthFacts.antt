@@ -1,7 +1,7 @@
 -- How large the numbers of a month are.
 use Rattle.std.specs.Prelude.{◌≡◌, ℕ, zero, suc, ◌+◌, ◌*◌, ◌^◌, ◌<◌, ◌≤◌, ℤ, pos, negsuc, ◌*ℤ◌, ◌≤ℤ◌, neg_ℤ}
 use Rattle.std.specs.Prelude.{if◌then◌else◌, Bool, true, false, not, ◌&&◌, int_le, unsigned_abs, ◌==◌}
-use Rattle.std.specs.Prelude.{Option, Some, None, option_map, find, All, List, [], ◌∷◌, length, map}
+use Rattle.std.specs.Prelude.{Option, Some, None, find, All, List, [], ◌∷◌, length, map}
 use Rattle.std.specs.Prelude.{slice_index_or, refl}
 use Rattle.std.specs.Int.{div_ceil}
 use Rattle.std.specs.List.{list_all}
@@ -20,10 +20,13 @@ use Rattle.model_specs.specs.ValuationRules.{RuleBreak, IsAdmissible}
 use Rattle.model_specs.specs.ValuationRules.{first_given, broken_in_months, broken_at_last}
 use Rattle.ledger_laws.specs.MonthLaws.{AdmissibleProductsObey, exit_rates}
 use Rattle.ledger_laws.specs.MonthLaws.{MonthNumbersAreSmall}
-use Rattle.whole_laws.proofs.Extremes.{le_from_test, both_pass, each_passes, nothing_found}
-use Rattle.whole_laws.proofs.Extremes.{greatest_natural-has, greatest_whole_natural, greatest_whole_least}
-use Rattle.whole_laws.proofs.Extremes.{least_whole-has, whole_sum_natural, length-list_of, place_of_list, All-list_of}
+use Rattle.whole_laws.proofs.Extremes.{nothing_found, within_greatest}
+use Rattle.whole_laws.proofs.Extremes.{greatest_natural-has, greatest_whole_natural}
+use Rattle.whole_laws.proofs.Extremes.{least_whole-has, whole_sum_natural}
 use Rattle.whole_laws.proofs.Extremes.{part_of_sum}
+use Rattle.whole_laws.proofs.Members.{none-of-map, each_passes}
+use Rattle.whole_laws.proofs.Tests.{le_from_test, both_pass}
+use Rattle.whole_laws.proofs.ListsByPlace.{length-list_of, at-list_of, All-list_of}
 use Rattle.ledger_laws.proofs.Rounding.{div_ceil_most}
 
 -- nothing is given exactly where no part gives anything
@@ -35,13 +38,6 @@ given_none (Some x) more h = absurd (some≢none x h)
     some≢none : {A : Type 0} (x : A) → Some x ≡ None → ⊥
     some≢none x h = cc
 
-mapped_none : {A B : Type 0} (f : A → B) (o : Option A) → option_map f o ≡ None → o ≡ None
-mapped_none f None h = refl
-mapped_none f (Some x) h = absurd (some≢none (f x) h)
-  where
-    some≢none : {B : Type 0} (x : B) → Some x ≡ None → ⊥
-    some≢none x h = cc
-
 not_false : (b : Bool) → not b ≡ false → b ≡ true
 not_false true h = refl
 not_false false h = sym h
@@ -49,9 +45,9 @@ not_false false h = sym h
 obeys_below : (product : Product) (rule : ℕ) (obeys : ℕ → Bool) → broken_in_months product rule obeys ≡ None
     → (m : ℕ) → m < product.months → obeys m ≡ true
 obeys_below product rule obeys none m below =
-    not_false (obeys m) (rw (place_of_list product.months (λ i. i) m 0 below) at
+    not_false (obeys m) (rw (at-list_of product.months (λ i. i) m 0 below) at
     (nothing_found (λ i. not (obeys i)) (places product.months)
-    (mapped_none (λ i. record { rule = rule; place = i }) (find (λ i. not (obeys i)) (places product.months)) none)
+    (none-of-map (λ i. record { rule = rule; place = i }) (find (λ i. not (obeys i)) (places product.months)) none)
     m 0 (rw (length-list_of product.months (λ i. i)) below)))
 
 none_broken : (a b c d : Option RuleBreak) → first_given (a ∷ b ∷ c ∷ d ∷ []) ≡ None
@@ -150,20 +146,16 @@ rate_within : (product : Product) (month e : ℕ) → obeys_rule_16 product mont
     → greatest_rate product e month ≤ℤ exit_rates product month (transition_at product e).from
 rate_within product month e rule below =
     let all = length product.transitions in
-    rw (place_of_list all (λ i. i) e 0 below) at
+    rw (at-list_of all (λ i. i) e 0 below) at
     (part_of_sum (λ i. greatest_rate product i month)
     (λ i. (transition_at product i).from == (transition_at product e).from) (places all) e 0
     (rw (length-list_of all (λ i. i)) below)
-    (rw (place_of_list all (λ i. i) e 0 below) (same_state (transition_at product e).from))
+    (rw (at-list_of all (λ i. i) e 0 below) (same_state (transition_at product e).from))
     (All-list_of (λ i. pos 0 ≤ℤ greatest_rate product i month) all (λ i. i)
     (λ i inside. rate_natural product month i rule inside)))
   where
     same_state : (n : ℕ) → (n == n) ≡ true
     same_state n = grind (arith, nat_tests)
-
-exits_within_rho : (n : ℕ) (f : ℕ → ℤ) (i : ℕ) → i < n → f i ≤ℤ greatest_whole (list_of n f)
-exits_within_rho n f i below = rw (place_of_list n f i (pos 0) below) at
-    (greatest_whole_least (list_of n f) i (pos 0) (rw (length-list_of n f) below))
 
 le_through : (a b c : ℤ) → a ≤ℤ b → b ≤ℤ c → a ≤ℤ c
 le_through a b c h k = omega (arith, ints)
@@ -224,13 +216,13 @@ month_numbers product month well rules =
           (rate_within product month e rules.rates below)
           (le_through (exit_rates product month (transition_at product e).from) (rho product month)
           (pos (2 * month_unit product))
-          (exits_within_rho (length product.states) (exit_rates product month) (transition_at product e).from
+          (within_greatest (length product.states) (exit_rates product month) (transition_at product e).from
           (well.transitions.from e no_transition below)) rho_most);
       rates_natural = λ e below. rate_natural product month e rules.rates below;
       exits_natural = λ i. exits_natural product month i rules.rates;
       exits_most = λ i below. le_through (exit_rates product month i) (rho product month)
           (pos (2 * month_unit product))
-          (exits_within_rho (length product.states) (exit_rates product month) i below) rho_most;
+          (within_greatest (length product.states) (exit_rates product month) i below) rho_most;
       rho_natural = greatest_whole_natural (list_of (length product.states) (exit_rates product month))
           (All-list_of (λ z. pos 0 ≤ℤ z) (length product.states) (exit_rates product month)
           (λ i below. exits_natural product month i rules.rates));

@@ -20,15 +20,16 @@ use Rattle.model_specs.specs.RecordRules.{IsWellFormed, IsPayment, IsBoundedPaym
 use Rattle.ledger_laws.specs.MonthLaws.{HasSmallNumbers, exit_rates}
 use Rattle.ledger_laws.specs.PaymentLaws.{HasLoadsWithin, HasPayWithin, PaymentLoadsAreSmall}
 use Rattle.ledger_laws.specs.PaymentLaws.{PatternLoadsAreSmall, PaymentsPayLittle, PatternPaysLittle}
-use Rattle.whole_laws.proofs.Extremes.{greatest_natural_most, whole_sum_natural, All-list_of}
+use Rattle.whole_laws.proofs.Extremes.{greatest_natural_most, whole_sum_natural}
 use Rattle.whole_laws.proofs.Found.{last-has, place-has, found-has, given-has, filter_map-has}
 use Rattle.whole_laws.proofs.Found.{flat_map-has}
+use Rattle.whole_laws.proofs.ListsByPlace.{All-list_of}
 use Rattle.ledger_laws.proofs.Loads.{load_zero, load_one, load_of_payment, load_of_none}
 use Rattle.ledger_laws.proofs.MonthFacts.{exits_below, month_numbers}
 use Rattle.ledger_laws.proofs.Rounding.{div_ceil_most}
 
 -- the greatest lump of a date
-lump_most : (product : Product) (plan : Plan) (date most : ℕ) → All (λ l. unsigned_abs l.amount ≤ most) plan.lumps
+pub lump_most : (product : Product) (plan : Plan) (date most : ℕ) → All (λ l. unsigned_abs l.amount ≤ most) plan.lumps
     → greatest_lump product plan date ≤ most
 lump_most product plan date most all =
     greatest_natural_most (map (λ l. unsigned_abs l.1) (lumps_at (length product.states) plan date)) most
@@ -105,7 +106,7 @@ pattern_step until month = last-has (PaysOneAtMost month) (λ s. nat_le s.from m
     (All-cons (PaysOneAtMost month) (constant_step until (pos 0)) [] (omega (arith, load_zero until month))
     (All-nil (PaysOneAtMost month))))
 
-no_step_pays : (month most : ℕ) → load (step_at [] month) month ≤ most
+pub no_step_pays : (month most : ℕ) → load (step_at [] month) month ≤ most
 no_step_pays month most = omega (arith, load_zero 0 month)
 
 continuous_loads : (product : Product) (pattern : PremiumPattern)

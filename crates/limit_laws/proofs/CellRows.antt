@@ -9,16 +9,17 @@ use Rattle.frac_laws.specs.Lists.{Vector, number_at, vector_at, matrix_at, scale
 use Rattle.frac_laws.proofs.FractionTerms.{ring, terms}
 use Rattle.frac_laws.proofs.Sums.{sum_to_ext, sum_to_zeros, sum_to_add, sum_to_scale, sum_to_exchange}
 use Rattle.frac_laws.proofs.Vectors.{number_at-scale_list, image-scale}
+use Rattle.frac_laws.proofs.Lengths.{number_at-past}
 use Rattle.cell_laws.specs.Recurrence.{convolved}
 use Rattle.whole_laws.specs.Whole.{list_of}
+use Rattle.whole_laws.proofs.Members.{at-map}
 use Rattle.model_specs.specs.Cells.{CellCurves}
 use Rattle.model_specs.specs.Systems.{interest_at, intensity_at, sojourn_rate_at, sum_paid_at, leaving_at, matrix_of}
 use Rattle.model_specs.specs.Systems.{first_payment_at, second_payment_at, backward_entry, coupling_entry, where_same}
 use Rattle.model_specs.specs.Systems.{thiele_system, second_moment_system, norberg_pair, kolmogorov_system}
 use Rattle.model_laws.specs.Equations.{IsQuintic}
-use Rattle.model_laws.proofs.CellTables.{image-table, number-table, row-diagonal, entry-zero, number_at-past}
+use Rattle.model_laws.proofs.CellTables.{image-table, number-table, row-diagonal, entry-zero}
 use Rattle.model_laws.proofs.CellTables.{convolution-past}
-use Rattle.cell_bounds.proofs.TameSystems.{at-map}
 use Rattle.moment_laws.proofs.ScaledRuns.{free-scaled}
 use Rattle.limit_laws.proofs.PolynomialNumbers.{row_sums}
 

@@ -10,6 +10,7 @@ use Rattle.frac_laws.proofs.FractionTerms.{ring, terms}
 use Rattle.frac_laws.proofs.ListProducts.{number_at-product}
 use Rattle.frac_laws.proofs.Sums.{sum_to_ext, sum_to_add, sum_to_sub, sum_to_scale}
 use Rattle.frac_laws.proofs.Vectors.{number_at-add_lists, number_at-scale_list, number_at-subtract_lists}
+use Rattle.frac_laws.proofs.Convolutions.{convolution-add_left}
 use Rattle.model_specs.specs.Cells.{CellCurves}
 use Rattle.model_specs.specs.Systems.{interest_at, intensity_at, sojourn_rate_at, leaving_at}
 use Rattle.model_specs.specs.Systems.{first_payment_at, second_payment_at}
@@ -18,7 +19,7 @@ use Rattle.limit_laws.specs.WrittenEquations.{thiele_right_side, norberg_right_s
 use Rattle.limit_laws.specs.WrittenEquations.{thiele_defect, norberg_defect, kolmogorov_defect, with_payments_times}
 use Rattle.limit_laws.proofs.PolynomialNumbers.{number_at-sum_of, number_at-derivative}
 use Rattle.limit_laws.proofs.PolynomialNumbers.{convolution-add, convolution-sub, convolution-scale}
-use Rattle.limit_laws.proofs.PolynomialNumbers.{convolution-add_left, convolution-scale_left, convolution-sum_left}
+use Rattle.limit_laws.proofs.PolynomialNumbers.{convolution-scale_left, convolution-sum_left}
 use Rattle.limit_laws.proofs.PolynomialNumbers.{convolution-assoc}
 
 -- the derivative's number less that of a right side

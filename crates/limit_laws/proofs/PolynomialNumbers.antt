@@ -13,6 +13,7 @@ use Rattle.frac_laws.proofs.Sums.{sum_to_ext, sum_to_add, sum_to_sub, sum_to_sca
 use Rattle.frac_laws.proofs.Vectors.{number_at-add_lists, number_at-scale_list}
 use Rattle.frac_laws.specs.Polynomials.{value_at}
 use Rattle.frac_laws.proofs.Polynomials.{value_at-add_lists, value_at-scale_list}
+use Rattle.frac_laws.proofs.Convolutions.{convolution-add_left}
 use Rattle.limit_laws.specs.WrittenEquations.{PolynomialsAreFunctions, SumsOfPolynomialsAreFunctions}
 use Rattle.limit_laws.specs.WrittenEquations.{Polynomial, ◌+ₚ◌, ◌*ₚ◌, ◌·ₚ◌, sum_of, derivative}
 
@@ -50,12 +51,6 @@ pub convolution-scale : (a b : ℕ → Fraction) (c : Fraction) (k : ℕ)
 convolution-scale a b c k =
     sum_to_ext (suc k) (λ m _. ring (a m ∷ b (k - m) ∷ c ∷ []) (hlevel terms) refl)
     ∙ sum_to_scale (suc k) c (λ m. a m *ℚ b (k - m))
-
-pub convolution-add_left : (a b c : ℕ → Fraction) (k : ℕ)
-    → convolution (λ m. a m +ℚ b m) c k ≡ convolution a c k +ℚ convolution b c k
-convolution-add_left a b c k =
-    sum_to_ext (suc k) (λ m _. ring (a m ∷ b m ∷ c (k - m) ∷ []) (hlevel terms) refl)
-    ∙ sum_to_add (suc k) (λ m. a m *ℚ c (k - m)) (λ m. b m *ℚ c (k - m))
 
 pub convolution-scale_left : (a b : ℕ → Fraction) (c : Fraction) (k : ℕ)
     → convolution (λ m. c *ℚ a m) b k ≡ c *ℚ convolution a b k

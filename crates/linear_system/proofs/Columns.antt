@@ -5,24 +5,19 @@ use Rattle.std.proofs.Common.{refl, ap, arith, Bool, true, false, add-one}
 use Rattle.std.specs.Prelude.{nat_eq, cond, ◌↔◌, IsTrue}
 use Rattle.std.proofs.Math.ListN.{length-append}
 use Rattle.linear_system.specs.StoredSystem.{AreColumns, AreDistinct, none, also, place_of}
-
-pub differ : (n c : ℕ) → (n ≡ c → ⊥) → nat_eq n c ≡ false
-differ n c h = grind arith
-
-pub same : (c : ℕ) → nat_eq c c ≡ true
-same c = grind arith
+use Rattle.whole_laws.proofs.Tests.{same_is, other_is_not}
 
 -- a column past the bound has no place
 pub place_of-beyond : {bound : ℕ} {cs : List ℕ} (c : ℕ) → AreDistinct bound cs → bound ≤ c
     → place_of cs c ≡ length cs
 place_of-beyond c none h = refl
 place_of-beyond {bound} {cs} c (also {c = x} {columns = rest} b e a) h =
-    rw (differ x c (λ q. absurd (omega arith))) (ap suc (place_of-beyond c a h))
+    rw (other_is_not x c (λ q. absurd (omega arith))) (ap suc (place_of-beyond c a h))
 
 -- a column that is pushed leaves the places of the others
 pub place_of-push : (cs : List ℕ) (n c : ℕ) → place_of cs c ≡ length cs → (n ≡ c → ⊥)
     → place_of (cs ++ n ∷ []) c ≡ length (cs ++ n ∷ [])
-place_of-push [] n c e h = rw (differ n c h) refl
+place_of-push [] n c e h = rw (other_is_not n c h) refl
 place_of-push (x ∷ cs) n c e h = cases (nat_eq x c) (λ q. place_of-push cs n c q h) e
   where
     cases : (b : Bool) → (place_of cs c ≡ length cs → place_of (cs ++ n ∷ []) c ≡ length (cs ++ n ∷ []))
@@ -52,7 +47,7 @@ place_of-at_most (x ∷ cs) c = cases (nat_eq x c) (place_of-at_most cs c)
 
 -- it has a place itself
 pub place_of-pushed : (cs : List ℕ) (n : ℕ) → place_of (cs ++ n ∷ []) n < length (cs ++ n ∷ [])
-place_of-pushed [] n = rw (same n) (omega arith)
+place_of-pushed [] n = rw (same_is n) (omega arith)
 place_of-pushed (c ∷ cs) n =
     elim (nat_eq c n) as (λ b. cond b 0 (suc (place_of (cs ++ n ∷ []) n)) < suc (length (cs ++ n ∷ [])))
     [ true ↦ omega arith | false ↦ omega (arith, place_of-pushed cs n) ]

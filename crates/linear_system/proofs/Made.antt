@@ -1,5 +1,5 @@
 -- A system stays made for its links while its numbers are set.
-use Rattle.std.proofs.Common.{ℕ}
+use Rattle.std.proofs.Common.{ℕ, ◌∙◌}
 use Rattle.std.specs.Prelude.{List}
 use Rattle.linear_system.specs.StoredSystem.{StoredSystem}
 use Rattle.linear_system.specs.Setting.{HasPlace, HaveSamePlaces, IsMadeFor}
@@ -29,4 +29,12 @@ made_kept dim degree links old new h made = record {
     λ p. (made.places row col b c).0 (place_before old new row col h p),
     λ t. place_kept old new row col h ((made.places row col b c).1 t),
   );
+}
+
+-- one after the other
+pub same_places_then : (a b c : StoredSystem) → HaveSamePlaces a b → HaveSamePlaces b c → HaveSamePlaces a c
+same_places_then a b c h k = record {
+  dim = k.dim ∙ h.dim;
+  degree = k.degree ∙ h.degree;
+  columns = λ row. k.columns row ∙ h.columns row;
 }

@@ -12,9 +12,10 @@ use Rattle.linear_system.specs.Setting.{SetsOnly}
 use Rattle.linear_system.specs.Changes.{row_with_number, with_number, HasColumn}
 use Rattle.linear_system.specs.Layout.{stored_row}
 use Rattle.linear_system.specs.declared.row.Row.{Row}
-use Rattle.linear_system.proofs.Columns.{differ, same, place_of-at_most}
+use Rattle.linear_system.proofs.Columns.{place_of-at_most}
 use Rattle.linear_system.proofs.Places.{one_column, one_power}
 use Rattle.linear_system.proofs.Rows.{of_rows}
+use Rattle.whole_laws.proofs.Tests.{same_is, other_is_not}
 
 equal_or_not : (i j : ℕ) → (i ≡ j) ⊎ (i ≡ j → ⊥)
 equal_or_not i j = grind arith
@@ -66,16 +67,16 @@ row_numbers r col m col2 m2 v h b = elim (equal_or_not col2 col) [
     | inl f ↦ rw (
       e,
       f,
-      same col,
-      same m,
-      differ (place_of r.columns col) (length r.columns)
+      same_is col,
+      same_is m,
+      other_is_not (place_of r.columns col) (length r.columns)
           (λ q. absurd (omega arith)),
     )
         (rw get_or-set_same refl)
-    | inr n ↦ rw (differ m2 m n) (unchanged (nat_eq col2 col)
+    | inr n ↦ rw (other_is_not m2 m n) (unchanged (nat_eq col2 col)
         (λ i p. n (sym (one_power m m2 _ _ (length r.columns) h p i).0)))
   ]
-  | inr n ↦ rw (differ col2 col n)
+  | inr n ↦ rw (other_is_not col2 col n)
       (kept (λ i p. n (sym (one_column r.columns col col2 h
       (one_power m m2 _ _ (length r.columns) h p i).1))))
 ]
@@ -90,7 +91,7 @@ row_numbers r col m col2 m2 v h b = elim (equal_or_not col2 col) [
       | inl b ↦ (let other : m2 * length r.columns + place_of r.columns col2 ≡ m * length r.columns + place_of
           r.columns col → ⊥
           = λ e. n (sym e) b in rw get_or-set_other refl)
-      | inr e ↦ rw (e, same (length r.columns)) refl
+      | inr e ↦ rw (e, same_is (length r.columns)) refl
     ]
 
     unchanged : (t : Bool) → (m * length r.columns + place_of r.columns col ≡ m2 * length r.columns + place_of
@@ -123,11 +124,11 @@ sets_only s row col m v h place hm = record {
     numbers_at : (row2 col2 m2 : ℕ) → (row ≡ row2) ⊎ (row ≡ row2 → ⊥)
         → stored_number (with_number s row col m v) row2 col2 m2
         ≡ cond (nat_eq row2 row && (nat_eq col2 col && nat_eq m2 m)) v (stored_number s row2 col2 m2)
-    numbers_at row2 col2 m2 (inl e) = let b = inside in rw (← e, same row) (rw get_or-set_same
+    numbers_at row2 col2 m2 (inl e) = let b = inside in rw (← e, same_is row) (rw get_or-set_same
         (row_numbers (row_of s row) col m col2 m2 v place.has_column
         (within_row m s.degree _ _ _ place.has_column hm (h.each row place.row_in).full)))
     numbers_at row2 col2 m2 (inr n) = let other : row2 ≡ row → ⊥ = λ e. n (sym e) in
-        rw (differ row2 row other) (rw get_or-set_other refl)
+        rw (other_is_not row2 row other) (rw get_or-set_other refl)
 
 pub is_set : (s t : StoredSystem) (row col m : ℕ) (v v' : ℤ) → IsSystem s → HasColumn s row col → m ≤ s.degree
     → v' ≡ v

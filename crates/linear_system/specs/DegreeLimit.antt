@@ -1,15 +1,11 @@
 -- The degree limit: from which power on the coefficients of the stored numbers are small enough to stop.
 use Rattle.std.specs.Prelude.{◌≡◌, ℕ, zero, suc, ◌*◌, ◌-◌, ◌^◌, ℤ, pos, unsigned_abs, List, slice_index_or}
-use Rattle.std.specs.Prelude.{Bool, true, cond, nat_eq, nat_lt, ◌&&◌}
+use Rattle.std.specs.Prelude.{Bool, cond, nat_eq, nat_lt}
 use Rattle.frac_laws.specs.Fraction.{Fraction, over, size, is_not_negative, ◌+ℚ◌, ◌*ℚ◌, ◌-ℚ◌}
 use Rattle.frac_laws.specs.Sums.{sum_to}
+use Rattle.whole_laws.specs.Whole.{holds_below}
 use Rattle.linear_system.specs.StoredSystem.{StoredSystem, dim_of, stored_number, stored_free}
 use Rattle.linear_system.specs.StandsFor.{units}
-
--- a test holds for each number below n
-abbrev pub holds_below : ℕ → (ℕ → Bool) → Bool
-holds_below zero test = true
-holds_below (suc n) test = holds_below n test && test n
 
 -- nothing but 0 is stored at a power, in any row and column, the free one among them
 abbrev pub is_empty_at : StoredSystem → ℕ → Bool

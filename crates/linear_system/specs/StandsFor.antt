@@ -1,5 +1,5 @@
 -- When a stored system stands for an exact system of one cell, or for a pair of them.
-use Rattle.std.specs.Prelude.{◌≡◌, ℕ, ◌+◌, ◌^◌, ◌<◌, ◌≤◌, ℤ, pos, List, length}
+use Rattle.std.specs.Prelude.{◌≡◌, ℕ, ◌+◌, ◌^◌, ◌<◌, ◌≤◌, ℤ, pos, List, length, map}
 use Rattle.frac_laws.specs.Fraction.{Fraction, over, whole, size, ◌-ℚ◌, ◌≤ℚ◌}
 use Rattle.frac_laws.specs.Lists.{Vector, Matrix, number_at, vector_at, matrix_at}
 use Rattle.cell_laws.specs.Systems.{System}
@@ -52,3 +52,7 @@ pub record StandsForPair (s : StoredSystem) (half : ℕ) (p : CoupledPair) : Typ
   pub second_free : VectorsStandNear 3 half (λ row m. stored_free s (half + row) m) p.second.free
   pub coupling : MatricesStandNear 3 half (λ row col m. stored_number s (half + row) col m) p.coupling
   pub one_way : (row col m : ℕ) → row < half → half ≤ col → col < dim_of s → stored_number s row col m ≡ pos 0
+
+-- whole numbers of units of 2^-64 as a vector
+abbrev pub in_units : List ℤ → Vector
+in_units numbers = map units numbers

@@ -1,14 +1,16 @@
 -- The entries and lengths of a cell's systems and of the runs.
 use Rattle.std.specs.Prelude.{◌≡◌, ℕ, zero, suc, pos, ◌-◌, ◌<◌, ◌≤◌, Bool, true, false, ◌==◌, ◌&&◌}
 use Rattle.std.specs.Prelude.{Some, find, map, List, [], ◌∷◌, length, slice_index_or, refl}
-use Rattle.std.proofs.Common.{ap, sym, ◌∙◌, inl, inr, arith}
+use Rattle.std.proofs.Common.{ap, sym, ◌∙◌, inl, inr, arith, ◌*◌, ℤ}
 use mathlib.Core.Path.{ap₂}
 use Rattle.std.proofs.lemmas.Bool.{cases_lt}
 use Rattle.std.proofs.lemmas.Bool.Decides.{eqb_tells}
-use Rattle.frac_laws.specs.Fraction.{Fraction, whole, opposite, ◌+ℚ◌}
+use Rattle.frac_laws.specs.Fraction.{Fraction, whole, opposite, ◌+ℚ◌, over, ◌*ℚ◌}
 use Rattle.frac_laws.specs.Sums.{sum_to}
 use Rattle.frac_laws.specs.Lists.{Vector, number_at, vector_at, matrix_at, add_lists}
 use Rattle.frac_laws.proofs.Lengths.{add_lists_fits}
+use Rattle.frac_laws.proofs.FractionTerms.{ring, terms}
+use Rattle.frac_laws.proofs.Quotients.{over_is}
 use Rattle.cell_laws.specs.Systems.{System, taylor_value}
 use Rattle.cell_laws.specs.Pairs.{CoupledPair, second_taylor_value}
 use Rattle.cell_laws.proofs.Dimensions.{taylor_values_keep_dimension, second_taylor_values_keep_dimension}
@@ -24,6 +26,8 @@ use Rattle.model_specs.specs.Runs.{Moments, moments_month_back, before_lumps, pr
 use Rattle.model_laws.specs.EntryLaws.{SystemsHaveEntries, SystemsKeepStates, RunsKeepStates}
 use Rattle.model_laws.specs.EntryLaws.{TransitionsAreFound}
 use Rattle.whole_laws.proofs.ListsByPlace.{at-list_of, past-list_of, length-list_of}
+use Rattle.whole_laws.proofs.Members.{at-map}
+use Rattle.named_numbers.specs.Numbers.{cells_of_year}
 
 -- a number of a table of matrices, and of a table of vectors
 table-entry : (states powers : ℕ) (f : ℕ → ℕ → ℕ → Fraction) (m i j : ℕ) → m < powers → i < states → j < states
@@ -171,13 +175,6 @@ find-first (suc n) (suc e) f test within here before =
     rw (before 0 (omega arith))
     (find-first n e (λ i. f (suc i)) test (omega arith) here (λ k low. before (suc k) (omega arith)))
 
--- a list of pairs by places
-map-at : {A B : Type 0} (f : A → B) (xs : List A) (i : ℕ) (d : A)
-    → slice_index_or (map f xs) i (f d) ≡ f (slice_index_or xs i d)
-map-at f [] i d = refl
-map-at f (x ∷ xs) zero d = refl
-map-at f (x ∷ xs) (suc i) d = map-at f xs i d
-
 length-map : {A B : Type 0} (f : A → B) (xs : List A) → length (map f xs) ≡ length xs
 length-map f [] = refl
 length-map f (x ∷ xs) = ap (λ n. suc n) (length-map f xs)
@@ -209,6 +206,10 @@ transitions_are_found product e good within =
     within (rw (same-test (transition_at product e).from, same-test (transition_at product e).to) refl)
     (λ k low. pair-test _ _ _ _ (λ from to. good.distinct k e low
     (rw (length-map pair_of product.transitions) within)
-    (map-at pair_of product.transitions k no_transition
+    (at-map pair_of product.transitions k no_transition
     ∙ both from to
-    ∙ sym (map-at pair_of product.transitions e no_transition))))
+    ∙ sym (at-map pair_of product.transitions e no_transition))))
+
+-- so many cells are that many 384ths of a year
+pub cells_in_years : (n : ℤ) → over (pos 1) cells_of_year *ℚ whole n ≡ over n cells_of_year
+cells_in_years n = ring (whole n ∷ over (pos 1) cells_of_year ∷ []) (hlevel terms) refl ∙ sym (over_is n cells_of_year)

@@ -7,6 +7,7 @@ use Rattle.frac_laws.specs.Sums.{sum_to}
 use Rattle.frac_laws.specs.Lists.{Vector, number_at, matrix_at, image}
 use Rattle.frac_laws.proofs.FractionTerms.{ring, terms}
 use Rattle.frac_laws.proofs.Sums.{sum_to_ext, sum_to_add, sum_to_zeros}
+use Rattle.frac_laws.proofs.Lengths.{number_at-past}
 use Rattle.cell_laws.specs.Systems.{coefficient}
 use Rattle.cell_laws.specs.Pairs.{second_coefficient}
 use Rattle.cell_laws.proofs.Recurrences.{coefficients_recur, second_coefficients_recur}
@@ -19,7 +20,7 @@ use Rattle.model_specs.specs.Systems.{matrix_of}
 use Rattle.model_specs.specs.Systems.{thiele_system, second_moment_system, norberg_pair, kolmogorov_system}
 use Rattle.model_laws.specs.Equations.{IsQuintic, ThieleSystemSolves, NorbergPairSolves}
 use Rattle.model_laws.specs.Equations.{KolmogorovSystemSolves}
-use Rattle.model_laws.proofs.CellTables.{image-table, number-table, row-diagonal, entry-zero, number_at-past}
+use Rattle.model_laws.proofs.CellTables.{image-table, number-table, row-diagonal, entry-zero}
 use Rattle.model_laws.proofs.CellTables.{convolution-past}
 
 -- what is past the degree is 0

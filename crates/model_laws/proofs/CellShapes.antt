@@ -1,56 +1,24 @@
 -- How long the lists of a cell's coefficients are.
-use Rattle.std.specs.Prelude.{◌≡◌, ℕ, zero, suc, ◌≤◌, ℤ, pos, Bool, true, false, cond, ◌==◌, nat_le}
-use Rattle.std.specs.Prelude.{Option, Some, None, All, filter, find, option_map, unwrap_or, List, []}
-use Rattle.std.specs.Prelude.{◌∷◌, length}
+use Rattle.std.specs.Prelude.{◌≡◌, ℕ, ◌≤◌, ℤ, pos, ◌==◌, nat_le}
+use Rattle.std.specs.Prelude.{Option, Some, None, All, find, option_map, unwrap_or, List, []}
+use Rattle.std.specs.Prelude.{length}
 use Rattle.std.specs.Prelude.{slice_index_or, refl}
-use Rattle.std.proofs.Common.{ap, ◌∙◌, arith, lit≤}
-use Rattle.std.proofs.lemmas.List.Elements.{All-map}
+use Rattle.std.proofs.Common.{◌∙◌, arith, lit≤}
 use Rattle.frac_laws.specs.Polynomials.{all_over}
 use Rattle.frac_laws.proofs.ListAlgebra.{length-scale_list}
 use Rattle.frac_laws.proofs.Polynomials.{length-shifted, length-stretched}
-use Rattle.whole_laws.specs.Whole.{last_or}
+use Rattle.frac_laws.proofs.Lengths.{length-all_over}
+use Rattle.whole_laws.proofs.Found.{last-has, place-has, found-has}
 use Rattle.model_specs.specs.Curve.{Piece, piece_at, zero_piece}
 use Rattle.model_specs.specs.Product.{Product, Step, no_transition, transition_at}
 use Rattle.model_specs.specs.Payments.{Plan, payment_plan, pattern_plan, constant_step, step_at}
 use Rattle.model_specs.specs.Payments.{sojourn_at, sum_at}
-use Rattle.model_specs.specs.Payments.{continuous_pattern, dated_pattern}
-use Rattle.model_specs.specs.RecordRules.{IsWellFormed, IsPayment}
+use Rattle.model_specs.specs.RecordRules.{IsWellFormed}
 use Rattle.model_specs.specs.Cells.{Grid, cell_polynomial, curve_cell, amount_cell, cell_curves}
 use Rattle.model_specs.specs.Cells.{transition_between}
 use Rattle.model_laws.specs.Equations.{IsQuintic}
 use Rattle.model_laws.specs.ShapeLaws.{CellsAreQuintic}
-
--- the last member that passes a test has what all members have, and so has what stands for none
-last-has : {A : Type 0} (P : A → Type 0) (test : A → Bool) (xs : List A) (none : A) → P none → All P xs
-    → P (last_or none (filter test xs))
-last-has P test [] none bare all = bare
-last-has P test (x ∷ xs) none bare all =
-    elim (test x) as (λ b. P (last_or none (cond b (x ∷ filter test xs) (filter test xs)))) [
-      | true ↦ last-has P test xs x (all 0 x (omega arith)) (λ k d b. all (suc k) d (omega arith))
-      | false ↦ last-has P test xs none bare (λ k d b. all (suc k) d (omega arith))
-    ]
-
--- and so has the member at a place
-place-has : {A : Type 0} (P : A → Type 0) (xs : List A) (i : ℕ) (none : A) → P none → All P xs
-    → P (slice_index_or xs i none)
-place-has P [] i none bare all = bare
-place-has P (x ∷ xs) zero none bare all = all 0 x (omega arith)
-place-has P (x ∷ xs) (suc i) none bare all = place-has P xs i none bare (λ k d b. all (suc k) d (omega arith))
-
--- and what is read of the first one that passes a test
-found-has : {A B : Type 0} (P : B → Type 0) (f : A → B) (test : A → Bool) (xs : List A) (none : B) → P none
-    → All (λ x. P (f x)) xs → P (unwrap_or (option_map f (find test xs)) none)
-found-has P f test [] none bare all = bare
-found-has P f test (x ∷ xs) none bare all =
-    elim (test x) as (λ b. P (unwrap_or (option_map f (cond b (Some x) (find test xs))) none)) [
-      | true ↦ all 0 x (omega arith)
-      | false ↦ found-has P f test xs none bare (λ k d b. all (suc k) d (omega arith))
-    ]
-
--- lengths of the polynomials of a cell
-length-all_over : (den : ℕ) (c : List ℤ) → length (all_over den c) ≡ length c
-length-all_over den [] = refl
-length-all_over den (x ∷ c) = ap (λ n. suc n) (length-all_over den c)
+use Rattle.model_laws.proofs.PlanSteps.{HasFour, HasFourEach, payment_plan_four, pattern_plan_four}
 
 length-cell_polynomial : (grid : Grid) (den : ℕ) (c : List ℤ) (months cell : ℕ)
     → length (cell_polynomial grid (all_over den c) months cell) ≡ length c
@@ -60,9 +28,6 @@ length-cell_polynomial grid den c months cell =
 -- six coefficients and four
 abbrev HasSix : List Piece → Type 0
 HasSix pieces = All (λ piece. length piece.c ≡ 6) pieces
-
-abbrev HasFour : List Step → Type 0
-HasFour steps = All (λ step. length step.c ≡ 4) steps
 
 nothing : {A : Type 0} (P : A → Type 0) → All P []
 nothing P = λ k d b. absurd (omega arith)
@@ -92,11 +57,6 @@ between-has : {B : Type 0} (P : B → Type 0) (found : Option ℕ) (f : ℕ → 
 between-has P None f none bare all = bare
 between-has P (Some e) f none bare all = all e
 
--- a plan whose steps have four coefficients
-record HasFourEach (plan : Plan) : Type 0 where
-  sums : All HasFour plan.sums
-  sojourns : All (λ s. HasFour s.steps) plan.sojourns
-
 plan-quintic : (grid : Grid) (product : Product) (plan : Plan) (month cell : ℕ) → IsWellFormed product
     → HasFourEach plan → IsQuintic (cell_curves grid product plan month cell)
 plan-quintic grid product plan month cell formed four = record {
@@ -118,40 +78,8 @@ plan-quintic grid product plan month cell formed four = record {
       (place-has HasFour plan.sums e [] (nothing (λ step. length step.c ≡ 4)) four.sums));
 }
 
-payment-plan-four : (product : Product) → IsWellFormed product → HasFourEach (payment_plan product)
-payment-plan-four product formed = record {
-  sums = All-map HasFour (λ t. t.sum) product.transitions
-      (λ k d b. given (slice_index_or product.transitions k d).sum
-      (formed.payments.sums k d b));
-  sojourns = λ k d b. (formed.payments.sojourns k d b).four;
-}
-  where
-    given : (steps : List Step) → (1 ≤ length steps → IsPayment product.months steps) → HasFour steps
-    given [] payment = nothing (λ step. length step.c ≡ 4)
-    given (step ∷ steps) payment = (payment (omega arith)).four
-
-pattern-plan-four : (product : Product) → HasFourEach (pattern_plan product)
-pattern-plan-four product =
-    elim (product.pattern.every == 0) as (λ b. HasFourEach
-    (cond b (continuous_pattern product.pattern) (dated_pattern product.pattern))) [
-      | true ↦ record {
-        sums = nothing HasFour;
-        sojourns = All-map (λ s. HasFour s.steps) (λ i. record {
-          state = i;
-          steps = constant_step 0 (pos 1) ∷ constant_step product.pattern.until (pos 0) ∷ [];
-        })
-            product.pattern.payers (λ k d b. two);
-      }
-      | false ↦ record { sums = nothing HasFour; sojourns = nothing (λ s. HasFour s.steps) }
-    ]
-  where
-    two : HasFour (constant_step 0 (pos 1) ∷ constant_step product.pattern.until (pos 0) ∷ [])
-    two zero d b = refl
-    two (suc zero) d b = refl
-    two (suc (suc k)) d b = absurd (omega arith)
-
 pub cells_are_quintic : CellsAreQuintic
 cells_are_quintic grid product month cell formed = (
-  plan-quintic grid product (payment_plan product) month cell formed (payment-plan-four product formed),
-  plan-quintic grid product (pattern_plan product) month cell formed (pattern-plan-four product),
+  plan-quintic grid product (payment_plan product) month cell formed (payment_plan_four product formed),
+  plan-quintic grid product (pattern_plan product) month cell formed (pattern_plan_four product),
 )

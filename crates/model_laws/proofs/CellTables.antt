@@ -1,9 +1,8 @@
 -- The matrices and vectors of a cell's systems, number by number.
-use Rattle.std.specs.Prelude.{◌≡◌, ◌≢◌, ℕ, suc, pos, ◌+◌, ◌-◌, ◌<◌, ◌≤◌, refl, [], ◌∷◌, length}
+use Rattle.std.specs.Prelude.{◌≡◌, ◌≢◌, ℕ, suc, pos, ◌+◌, ◌-◌, ◌<◌, ◌≤◌, refl, [], ◌∷◌}
 use Rattle.std.proofs.Common.{ap, sym, ◌∙◌, inl, inr, arith}
 use Rattle.std.proofs.lemmas.Bool.{cases_lt}
 use Rattle.std.proofs.lemmas.Bool.Decides.{eqb_tells}
-use Rattle.std.proofs.lemmas.List.{get_or_past}
 use Rattle.frac_laws.specs.Fraction.{Fraction, whole, ◌+ℚ◌, ◌*ℚ◌}
 use Rattle.frac_laws.specs.Sums.{sum_to}
 use Rattle.frac_laws.specs.Convolution.{convolution}
@@ -70,10 +69,6 @@ row-diagonal states i g v x within =
 pub entry-zero : (i j : ℕ) (g x : Fraction) → g ≡ whole (pos 0) → x ≡ whole (pos 0)
     → g +ℚ where_same i j x ≡ whole (pos 0)
 entry-zero i j g x none nothing = rw (none, nothing, where_same-zero i j) (ring [] (hlevel terms) refl)
-
--- a list has 0 past its end
-pub number_at-past : (v : Vector) (d m : ℕ) → length v ≤ d → d ≤ m → number_at v m ≡ whole (pos 0)
-number_at-past v d m short past = get_or_past v m (whole (pos 0)) (omega arith)
 
 -- a convolution of two sequences that are 0 from d and from e on is 0 from d + e - 1 on
 pub convolution-past : (d e k : ℕ) (a b : ℕ → Fraction) → ((m : ℕ) → d ≤ m → a m ≡ whole (pos 0))

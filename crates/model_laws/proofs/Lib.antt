@@ -1,3 +1,4 @@
+pub mod BoundedCoefficients
 pub mod CellEntries
 pub mod CellEquations
 pub mod CellShapes
@@ -7,12 +8,16 @@ pub mod ExchangeInstances
 pub mod FlatCells
 pub mod FlatInstances
 pub mod FlatRuns
+pub mod FourCoefficients
+pub mod GoodNames
 pub mod LedgerInstances
 pub mod LimitInstances
 pub mod LongLedgers
 pub mod MomentInstances
 pub mod Moments
 pub mod MonthCoefficients
+pub mod MonthNumerators
+pub mod MonthPowers
 pub mod PlanSteps
 pub mod RingInstances
 pub mod RuleInstances

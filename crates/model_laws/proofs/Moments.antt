@@ -20,7 +20,7 @@ use Rattle.model_laws.proofs.CellEquations.{norberg_pair_solves}
 use Rattle.model_laws.proofs.FlatCells.{IsFlatCell, none_of}
 
 -- over a month the first moments of both are those of the first half alone
-month-first : (pair : ℕ → CoupledPair) (n cells : ℕ) (v : Moments)
+pub month-first : (pair : ℕ → CoupledPair) (n cells : ℕ) (v : Moments)
     → (moments_month_back pair n cells v).first ≡ month_back (λ cell. (pair cell).first) n cells v.first
 month-first pair n zero v = refl
 month-first pair n (suc cells) v = month-first pair n cells (record {

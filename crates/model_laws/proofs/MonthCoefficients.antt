@@ -11,7 +11,7 @@ use Rattle.frac_laws.specs.Bernstein.{binomial, bernstein_coefficient}
 use Rattle.frac_laws.proofs.FractionTerms.{ring, terms}
 use Rattle.frac_laws.proofs.Sums.{sum_to_ext, sum_to_first}
 use Rattle.frac_laws.proofs.Quotients.{over_is, over_add, over_mul, whole_mul}
-use Rattle.std.proofs.Math.Nat.{pow-zero, pow-suc}
+use Rattle.frac_laws.proofs.Powers.{whole_power}
 use Rattle.whole_laws.specs.Whole.{list_of, whole_sum}
 use Rattle.model_specs.specs.MonthNumbers.{coefficient_at, month_coefficient, bernstein_numerator}
 use Rattle.model_laws.specs.NumberLaws.{month_polynomial, CurveNumeratorsStandForBernstein}
@@ -25,13 +25,6 @@ over-whole_sum (suc n) f d =
     ∙ ap (λ z. over (f 0) d +ℚ z) (over-whole_sum n (λ i. f (suc i)) d)
     ∙ sym (sum_to_first n (λ i. over (f i) d))
 
--- a whole power as a fraction
-whole-power : (k n : ℕ) → whole (pos (k ^ n)) ≡ power (whole (pos k)) n
-whole-power k zero = rw (pow-zero k) refl
-whole-power k (suc n) = rw (pow-suc k n) (whole_mul (pos (k ^ n)) (pos k)
-    ∙ ap (λ z. z *ℚ whole (pos k)) (whole-power k n)
-    ∙ ring (whole (pos k) ∷ power (whole (pos k)) n ∷ []) (hlevel terms) refl)
-
 -- one term of a coefficient
 term-is : (a k n e : ℕ) (c : ℤ) (d : ℕ) → over (pos (a * k ^ n * e) *ℤ c) d
     ≡ whole (pos a) *ℚ whole (pos e) *ℚ power (whole (pos k)) n *ℚ (whole c *ℚ over (pos 1) d)
@@ -41,7 +34,7 @@ term-is a k n e c d =
       whole_mul (pos (a * k ^ n * e)) c,
       whole_mul (pos (a * k ^ n)) (pos e),
       whole_mul (pos a) (pos (k ^ n)),
-      whole-power k n,
+      whole_power k n,
     )
     (ring (whole (pos a) ∷ whole (pos e) ∷ power (whole (pos k)) n ∷ whole c ∷ over (pos 1) d ∷ [])
     (hlevel terms) refl)

@@ -7,11 +7,8 @@ use Rattle.model_specs.specs.Names.{IsGoodName, is_name_byte}
 use Rattle.model_specs.specs.RecordRules.{AreDistinct, IsBounded, IsBoundedCurve}
 use Rattle.model_laws.specs.Examples.{constant_curve}
 use Rattle.model_laws.specs.RuleInstances.{LumpIsAdmissible}
-
--- facts of lists of one member, and of none
-only : {A : Type 0} (P : A → Type 0) (x : A) → P x → All P (x ∷ [])
-only P x holds zero d b = holds
-only P x holds (suc k) d b = absurd (omega arith)
+use Rattle.model_laws.proofs.GoodNames.{on_is_good}
+use Rattle.whole_laws.proofs.Members.{All-one}
 
 none : {A : Type 0} (P : A → Type 0) → All P []
 none P k d b = absurd (omega arith)
@@ -30,14 +27,6 @@ twentieth-bounded (suc (suc (suc zero))) b = lit≤ tt
 twentieth-bounded (suc (suc (suc (suc zero)))) b = lit≤ tt
 twentieth-bounded (suc (suc (suc (suc (suc zero))))) b = lit≤ tt
 twentieth-bounded (suc (suc (suc (suc (suc (suc i)))))) b = absurd (omega arith)
-
-on-is-good : IsGoodName 24 (codes "on")
-on-is-good = record { not_empty = lit< tt; short = lit≤ tt; bytes = bytes }
-  where
-    bytes : AllPass is_name_byte (codes "on")
-    bytes zero d b = refl
-    bytes (suc zero) d b = refl
-    bytes (suc (suc k)) d b = absurd (omega arith)
 
 example-is-good : IsGoodName 40 (codes "example")
 example-is-good = record { not_empty = lit< tt; short = lit≤ tt; bytes = bytes }
@@ -59,7 +48,7 @@ lump_is_admissible = record {
       name = example-is-good;
       some_state = lit≤ tt;
       at_most_twelve = lit≤ tt;
-      states = only (IsGoodName 24) (codes "on") on-is-good;
+      states = All-one (IsGoodName 24) (codes "on") on_is_good;
       distinct = alone [] (codes "on");
     };
     head = record {
@@ -77,7 +66,7 @@ lump_is_admissible = record {
     };
     curves = record {
       interest = record {
-        six = only (λ piece. length piece.c ≡ 6) _ refl;
+        six = All-one (λ piece. length piece.c ≡ 6) _ refl;
         starts = record {
           some = lit≤ tt;
           first = refl;
@@ -98,9 +87,9 @@ lump_is_admissible = record {
       bounded_sums = none _;
     };
     lumps = record {
-      dates = only (λ l. l.month ≤ 12) _ (lit≤ tt);
-      states = only (λ l. l.state < 1) _ (lit< tt);
-      amounts = only (λ l. unsigned_abs l.amount ≤ 10 ^ 12) _ (lit≤ tt);
+      dates = All-one (λ l. l.month ≤ 12) _ (lit≤ tt);
+      states = All-one (λ l. l.state < 1) _ (lit< tt);
+      amounts = All-one (λ l. unsigned_abs l.amount ≤ 10 ^ 12) _ (lit≤ tt);
       distinct = λ i j low within. absurd (omega arith);
     };
     pattern = record {

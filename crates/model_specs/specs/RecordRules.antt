@@ -1,6 +1,7 @@
 -- Rules 3 to 14 of a product file, as far as the record of a product can break them. This product's own.
-use Rattle.std.specs.Prelude.{◌≡◌, ◌≢◌, ℕ, suc, ◌-◌, ◌*◌, ◌^◌, ◌<◌, ◌≤◌, ℤ, pos, unsigned_abs, All, map}
-use Rattle.std.specs.Prelude.{List, [], length, slice_index, slice_index_or}
+use Rattle.std.specs.Prelude.{◌≡◌, ◌≢◌, ℕ, suc, ◌-◌, ◌*◌, ◌^◌, ◌<◌, ◌≤◌, ℤ, pos, unsigned_abs, All, map, Bool}
+use Rattle.std.specs.Prelude.{List, [], length, slice_index, slice_index_or, nat_le}
+use Rattle.std.specs.List.{list_all}
 use Rattle.named_numbers.specs.Numbers.{most_months, most_states, most_denominator, most_every}
 use Rattle.named_numbers.specs.Numbers.{longest_product_name, longest_state_name}
 use Rattle.named_numbers.specs.Numbers.{most_coefficient, most_amount, most_lump, bernstein_unit}
@@ -9,6 +10,7 @@ use Rattle.model_specs.specs.Product.{Product, Step}
 use Rattle.model_specs.specs.Payments.{constant_step}
 use Rattle.model_specs.specs.MonthNumbers.{coefficient_at, bernstein_numerators}
 use Rattle.model_specs.specs.Names.{IsGoodName}
+use Rattle.whole_laws.specs.Whole.{places}
 
 -- the members of a list differ from each other
 abbrev pub AreDistinct : {A : Type 0} → A → List A → Type 0
@@ -132,3 +134,8 @@ pub record IsWellFormed (product : Product) : Type 0 where
   pub payments : HasGoodPayments product
   pub lumps : HasGoodLumps product
   pub pattern : HasGoodPattern product
+
+-- |c_i| s^i is not too large for each coefficient of a part that holds for s months
+abbrev pub is_bounded : List ℤ → ℕ → Bool
+is_bounded c s =
+    list_all (λ i. nat_le (unsigned_abs (coefficient_at c i) * s ^ i) most_coefficient) (places (length c))

@@ -28,8 +28,8 @@ use Rattle.product_laws.specs.TameCells.{coupling_of}
 use Rattle.sweep_laws.specs.ScaledSteps.{both_first, both_second, next_cell}
 use Rattle.sweep_laws.proofs.ScaledSteps.{both_moments_step}
 use Rattle.sweep_laws.proofs.Sweeps.{units-order}
+use Rattle.sweep_laws.proofs.PairSweeps.{taken_counts}
 use Rattle.moment_equations.specs.NearMoments.{AreNearIn, StaysNear}
-use Rattle.moment_equations.proofs.DateLedgers.{taken_counts}
 use Rattle.moment_equations.proofs.Halves.{halves_most, numbers_small}
 
 module _ (product : Product) (months done : ℕ) (admissible : IsAdmissible product) (inside : months < product.months)

@@ -3,22 +3,19 @@
 -- date by date and cell by cell.
 use Rattle.std.specs.Prelude.{◌≡◌, ℕ, pos, ◌+◌, ◌*◌, ◌^◌, ◌<◌, ◌≤◌, unsigned_abs, ℤ, List, [], ◌∷◌, length, map}
 use Rattle.std.specs.Int.{div_ceil}
-use Rattle.std.proofs.Common.{refl, ap, sym, ◌∙◌, arith, lit≤, inl, inr, pow_pos}
+use Rattle.std.proofs.Common.{refl, ap, sym, ◌∙◌, arith, inl, inr, pow_pos}
 use Rattle.std.proofs.lemmas.Bool.{cases_lt}
 use Rattle.std.proofs.lemmas.Int.{ints}
 use Rattle.std.proofs.lemmas.List.{get_or_past}
-use Rattle.std.proofs.Math.IntN.{pos-*ℤ-pos}
 use mathlib.Core.Path.{ap₂}
-use Rattle.frac_laws.specs.Fraction.{Fraction, over, whole, size, ◌+ℚ◌, ◌-ℚ◌, ◌*ℚ◌, ◌≤ℚ◌}
+use Rattle.frac_laws.specs.Fraction.{Fraction, whole, size, ◌+ℚ◌, ◌-ℚ◌, ◌*ℚ◌, ◌≤ℚ◌}
 use Rattle.frac_laws.specs.Lists.{Vector, number_at, scale_list}
 use Rattle.frac_laws.specs.Norms.{Sup}
 use Rattle.frac_laws.proofs.FractionTerms.{ring, terms}
-use Rattle.frac_laws.proofs.Linear.{linear, claims, natural, ◌⊞◌, ◌⊠◌}
-use Rattle.frac_laws.proofs.LedgerFacts.{rounded_up_le}
+use Rattle.frac_laws.proofs.Linear.{linear, claims, natural, ◌⊠◌}
 use Rattle.frac_laws.proofs.Norms.{size_zero}
-use Rattle.frac_laws.proofs.Order.{le_trans, le_of_equal, mul_mono}
-use Rattle.frac_laws.proofs.Quotients.{over_is, over_mul, whole_add, whole_mul}
-use Rattle.frac_laws.proofs.Sizes.{size_add, size_sub, size_mul, size_of_natural, size_natural}
+use Rattle.frac_laws.proofs.Order.{le_trans, le_of_equal}
+use Rattle.frac_laws.proofs.Sizes.{size_mul, size_of_natural}
 use Rattle.frac_laws.proofs.Vectors.{number_at-scale_list}
 use Rattle.cell_laws.specs.ErrorLaws.{distance}
 use Rattle.model_specs.specs.Product.{Product}
@@ -31,45 +28,8 @@ use Rattle.product_cells.specs.EachCell.{plan_scaling}
 use Rattle.sweep_laws.specs.SweepLaws.{units}
 use Rattle.sweep_laws.specs.PairSweepLaws.{AnswersDate}
 use Rattle.moment_laws.proofs.LumpSizes.{lump_within, size-whole}
-use Rattle.sweep_laws.proofs.PairSweeps.{distance_most, number_near}
+use Rattle.sweep_laws.proofs.PairSweeps.{distance_most, number_near, date_number, date_ledger}
 use Rattle.sweep_laws.proofs.Sweeps.{units-order}
-
--- a date's numbers: exact z + 2 l w + l^2 against the stored ones
-date_number : (z w l z0 w0 z1 s r t : Fraction) → size (z -ℚ z0) ≤ℚ s → size (w -ℚ w0) ≤ℚ r → size l ≤ℚ t
-    → size (z1 -ℚ (z0 +ℚ whole (pos 2) *ℚ l *ℚ w0 +ℚ l *ℚ l)) ≤ℚ units 4
-    → size ((z +ℚ whole (pos 2) *ℚ l *ℚ w +ℚ l *ℚ l) -ℚ z1) ≤ℚ s +ℚ whole (pos 2) *ℚ t *ℚ r +ℚ units 4
-date_number z w l z0 w0 z1 s r t hz hw hl stored =
-    let a = z -ℚ z0 in
-    let b = whole (pos 2) *ℚ l *ℚ (w -ℚ w0) in
-    let c = z1 -ℚ (z0 +ℚ whole (pos 2) *ℚ l *ℚ w0 +ℚ l *ℚ l) in
-    let parts : (z +ℚ whole (pos 2) *ℚ l *ℚ w +ℚ l *ℚ l) -ℚ z1 ≡ (a +ℚ b) -ℚ c =
-    ring (z ∷ w ∷ l ∷ z0 ∷ w0 ∷ z1 ∷ []) (hlevel terms) refl in
-    let sized : size b ≡ whole (pos 2) *ℚ size l *ℚ size (w -ℚ w0) =
-    size_mul (whole (pos 2) *ℚ l) (w -ℚ w0) ∙ ap (λ y. y *ℚ size (w -ℚ w0)) (size_mul (whole (pos 2)) l
-    ∙ ap (λ y. y *ℚ size l) (size_of_natural (natural 2 1))) in
-    let product = mul_mono hl hw (size_natural l) (le_trans (size_natural (w -ℚ w0)) hw) in
-    rw parts (linear (size ((a +ℚ b) -ℚ c) ∷ size (a +ℚ b) ∷ size a ∷ size b ∷ size c ∷ size l ∷ size (w -ℚ w0)
-    ∷ s ∷ r ∷ t ∷ units 4 ∷ [])
-    (size_sub (a +ℚ b) c ⊞ size_add a b ⊞ hz ⊞ le_of_equal sized ⊞ product ⊠ natural 2 1 ⊞ stored) (hlevel claims) refl)
-
--- the ledger covers what a date adds
-date_ledger : (s l w g : ℕ) → 1 ≤ g
-    → units s +ℚ whole (pos 2) *ℚ (over (pos 1) g *ℚ whole (pos l)) *ℚ units w +ℚ units 4
-    ≤ℚ units (s + (div_ceil (2 * l * w) g + 4))
-date_ledger s l w g some =
-    let rounded = rounded_up_le (2 * l * w) g some in
-    let dc = div_ceil (2 * l * w) g in
-    let top : over (pos (2 * l * w)) g ≡ whole (pos 2) *ℚ whole (pos l) *ℚ whole (pos w) *ℚ over (pos 1) g =
-    over_is (pos (2 * l * w)) g ∙ ap (λ z. z *ℚ over (pos 1) g) (times (2 * l) w
-    ∙ ap (λ z. z *ℚ whole (pos w)) (times 2 l)) in
-    let all : whole (pos (s + (dc + 4))) ≡ whole (pos s) +ℚ (whole (pos dc) +ℚ whole (pos 4)) =
-    whole_add (pos s) (pos (dc + 4)) ∙ ap (λ z. whole (pos s) +ℚ z) (whole_add (pos dc) (pos 4)) in
-    rw (over_is (pos s) (2 ^ 64), over_is (pos w) (2 ^ 64), over_is (pos (s + (dc + 4))) (2 ^ 64), all)
-    (linear (whole (pos s) ∷ whole (pos l) ∷ whole (pos w) ∷ whole (pos dc) ∷ over (pos 1) g ∷ [])
-    ((rw top at rounded) ⊠ natural 1 (2 ^ 64)) (hlevel claims) refl)
-  where
-    times : (a b : ℕ) → whole (pos (a * b)) ≡ whole (pos a) *ℚ whole (pos b)
-    times a b = ap whole (sym (pos-*ℤ-pos a b)) ∙ whole_mul (pos a) (pos b)
 
 module _ (product : Product) (date : ℕ) (v : Moments) (w0 z0 z1 : Vector) (r s : ℕ)
     (answer : AnswersDate product date w0 z0 z1) where
@@ -161,14 +121,3 @@ module _ (product : Product) (date : ℕ) (v : Moments) (w0 z0 z1 : Vector) (r s
           (size-whole (lump_at plan date i) (greatest_lump product plan date) (lump_within product plan date i b) ⊠
           some_h)
           (hlevel claims) refl)
-
--- what the second half takes is counted
-pub taken_counts : (pay radius g : ℕ) → 1 ≤ g
-    → over (pos (2 * pay)) (1024 * g) *ℚ whole (pos radius) ≤ℚ whole (pos (div_ceil (2 * pay * radius) (1024 * g)))
-taken_counts pay radius g some =
-    let rounded = rounded_up_le (2 * pay * radius) (1024 * g) (omega (arith, some)) in
-    le_trans (le_of_equal (over_mul (pos (2 * pay)) (pos radius) (1024 * g) 1 (omega (arith, some)) (lit≤ tt)
-    ∙ ap₂ over (pos-*ℤ-pos (2 * pay) radius) (once (1024 * g)))) rounded
-  where
-    once : (n : ℕ) → n * 1 ≡ n
-    once n = omega arith

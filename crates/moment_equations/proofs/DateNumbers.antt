@@ -2,8 +2,8 @@
 use Rattle.std.specs.Prelude.{◌≡◌, ℕ, zero, suc, pos, ◌+◌, ◌-◌, ◌^◌, ◌<◌, ◌≤◌, ℤ, List, [], ◌∷◌, length, replicate}
 use Rattle.std.specs.Prelude.{slice_index_or, take, drop, ◌+ℤ◌, ◌≤ℤ◌, unsigned_abs}
 use Rattle.std.proofs.lemmas.Bool.{cases_lt}
-use Rattle.std.proofs.lemmas.List.{get_or-take, get_or-drop, get_or_past, get_or-replicate}
-use Rattle.std.proofs.lemmas.List.{length-take, length-replicate}
+use Rattle.std.proofs.lemmas.List.{get_or-take, get_or-drop, get_or_past}
+use Rattle.std.proofs.lemmas.List.{length-take}
 use Rattle.std.proofs.Common.{refl, ap, sym, subst, ◌∙◌, arith, inl, inr, pow_pos}
 use mathlib.Core.Path.{ap₂}
 use Rattle.frac_laws.specs.Fraction.{Fraction, over, whole, size, ◌-ℚ◌, ◌*ℚ◌, ◌≤ℚ◌}
@@ -21,14 +21,12 @@ use Rattle.model_specs.specs.Product.{Product}
 use Rattle.model_specs.specs.Payments.{Plan, payment_plan}
 use Rattle.model_specs.specs.Cells.{Backward, cells_of_32}
 use Rattle.model_specs.specs.Ledgers.{scale, radius, second_radius, radius_before_term, second_before_term}
-use Rattle.model_specs.specs.Runs.{Moments, first_before_term, moments_before_term, moments_month_back, month_back}
+use Rattle.model_specs.specs.Runs.{first_before_term, moments_before_term, month_back}
 use Rattle.model_specs.specs.Runs.{before_lumps, lump_vector, reserve, second_moment}
 use Rattle.model_specs.specs.Systems.{norberg_pair, thiele_system, vector_of}
 use Rattle.whole_laws.proofs.ListsByPlace.{at-list_of, past-list_of}
-use Rattle.product_cells.proofs.ProductCurves.{over_none}
 use Rattle.model_specs.specs.ValuationRules.{IsAdmissible}
 use Rattle.cell_laws.specs.ErrorLaws.{distance}
-use Rattle.cell_laws.specs.Pairs.{CoupledPair}
 use Rattle.product_cells.specs.EachCell.{backward_cell, plan_scaling}
 use Rattle.moment_laws.proofs.ReserveLedger.{reserves_stay_within_scale}
 use Rattle.moment_laws.proofs.SecondMoments.{second_moments_stay_within_scale, four_power}
@@ -41,20 +39,15 @@ use Rattle.ledger_laws.proofs.MonthFacts.{admissible_obeys}
 use Rattle.sweep_laws.specs.SweepLaws.{units}
 use Rattle.sweep_laws.proofs.PairSweeps.{distance_most}
 use Rattle.taylor_step.specs.CanStep.{AreAtMost}
-use Rattle.taylor_step.specs.Enclosures.{in_units}
-use Rattle.thiele_backward.proofs.NearNumbers.{at-units, past-units}
 use Rattle.moment_equations.specs.declared.ends.Moment.{Moment}
 use Rattle.moment_equations.specs.declared.ends.Moment.TheVariants.{First, Second, Variance}
 use Rattle.moment_equations.specs.Dates.{HoldsAt, AreNearFrom}
 use Rattle.moment_equations.specs.Kinds.{exact_of, form_of, number_of, width_by, width_of}
 use Rattle.moment_equations.specs.NearMoments.{AreNear}
 use Rattle.moment_equations.proofs.Halves.{first_within, second_within, number_within, halves_most}
-
--- the first half of the run of both moments is the run of the first ones
-month-first : (pair : ℕ → CoupledPair) (n cells : ℕ) (v : Moments)
-    → (moments_month_back pair n cells v).first ≡ month_back (λ cell. (pair cell).first) n cells v.first
-month-first pair n zero v = refl
-month-first pair n (suc cells) v = month-first pair n cells _
+use Rattle.model_laws.proofs.Moments.{month-first}
+use Rattle.linear_system.proofs.NumbersInUnits.{zeros_none}
+use Rattle.linear_system.specs.StandsFor.{in_units}
 
 pub moments-first : (product : Product) (plan : Plan) (n k : ℕ) → (moments_before_term product plan n k).first
     ≡ first_before_term (cells_of_32 Backward) product plan n k
@@ -251,14 +244,6 @@ front_most mid S most all i = elim (cases_lt i S) [
 pub back_most : (mid : List ℤ) (S most : ℕ) → AreAtMost most mid → AreAtMost most (drop S mid)
 back_most mid S most all i = rw (get_or-drop S mid i (pos 0)) (all (S + i))
 
--- at the term all numbers are 0
-none_at : (count i : ℕ) → number_at (in_units (replicate count (pos 0))) i ≡ whole (pos 0)
-none_at count i = elim (cases_lt i count) [
-  | inl b ↦ at-units (replicate count (pos 0)) i (rw (length-replicate count (pos 0)) b)
-      ∙ ap (λ (z : ℤ). over z (2 ^ 64)) (get_or-replicate count i (pos 0) (pos 0) b) ∙ over_none (2 ^ 64)
-  | inr past ↦ past-units (replicate count (pos 0)) i (rw (length-replicate count (pos 0)) past)
-]
-
 exact_none : (product : Product) (n i : ℕ)
     → number_at (vector_of (length product.states) (λ k. whole (pos 0))) i ≡ whole (pos 0)
 exact_none product n i = elim (cases_lt i (length product.states)) [
@@ -278,13 +263,13 @@ zero_near u v r none nothing = distance_most u v (units r) (natural r (2 ^ 64)) 
 
 zeros-at : (S i : ℕ) → number_at (take S (in_units (replicate (S + S) (pos 0)))) i ≡ whole (pos 0)
 zeros-at S i = elim (cases_lt i S) [
-  | inl b ↦ get_or-take S (in_units (replicate (S + S) (pos 0))) i (whole (pos 0)) b ∙ none_at (S + S) i
+  | inl b ↦ get_or-take S (in_units (replicate (S + S) (pos 0))) i (whole (pos 0)) b ∙ zeros_none (S + S) i
   | inr past ↦ get_or_past (take S (in_units (replicate (S + S) (pos 0)))) i (whole (pos 0))
       (omega (arith, past, length-take S (in_units (replicate (S + S) (pos 0)))))
 ]
 
 zeros-behind : (S i : ℕ) → number_at (drop S (in_units (replicate (S + S) (pos 0)))) i ≡ whole (pos 0)
-zeros-behind S i = get_or-drop S (in_units (replicate (S + S) (pos 0))) i (whole (pos 0)) ∙ none_at (S + S) (S + i)
+zeros-behind S i = get_or-drop S (in_units (replicate (S + S) (pos 0))) i (whole (pos 0)) ∙ zeros_none (S + S) (S + i)
 
 pub near_at_term : (product : Product) (n : ℕ) (mid : List ℤ)
     → mid ≡ replicate (length product.states + length product.states) (pos 0) → AreNear product n 0 mid

@@ -13,13 +13,13 @@ use Rattle.frac_laws.proofs.Norms.{number_below_norm}
 use Rattle.frac_laws.proofs.Order.{le_trans, le_of_equal}
 use Rattle.frac_laws.proofs.Quotients.{over_add}
 use Rattle.frac_laws.proofs.Sizes.{size_add, size-opposite}
+use Rattle.frac_laws.proofs.SizeFacts.{abs_of_size}
 use Rattle.cell_laws.specs.ErrorLaws.{distance}
 use Rattle.taylor_step.specs.CanStep.{AreAtMost}
-use Rattle.taylor_step.specs.Enclosures.{in_units}
 use Rattle.sweep_laws.specs.SweepLaws.{units}
 use Rattle.sweep_laws.proofs.PairSweeps.{number_near}
-use Rattle.cell_coeffs.proofs.Near.{abs_of_size}
-use Rattle.thiele_backward.proofs.NearNumbers.{at-units}
+use Rattle.linear_system.specs.StandsFor.{in_units}
+use Rattle.linear_system.proofs.NumbersInUnits.{at-units}
 
 -- a number near one of at most 1 in size
 pub number_within : (x : Fraction) (z : ℤ) (rad : ℕ) → size x ≤ℚ whole (pos 1)

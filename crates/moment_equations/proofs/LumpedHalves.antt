@@ -21,7 +21,6 @@ use Rattle.model_specs.specs.Payments.{Plan, payment_plan, lump_at, lumps_at}
 use Rattle.model_specs.specs.Ledgers.{scale, radius_before_term, second_before_term}
 use Rattle.model_specs.specs.Runs.{Moments, lump_vector, moments_before_term}
 use Rattle.linear_system.specs.StandsFor as stands
-use Rattle.taylor_step.specs.Enclosures.{in_units}
 use Rattle.cell_bounds.specs.ScaledSystems.{scaling}
 use Rattle.product_cells.specs.EachCell.{plan_scaling}
 use Rattle.sweep_laws.specs.PairSweepLaws.{AnswersDate}
@@ -30,9 +29,10 @@ use Rattle.cell_coeffs.specs.Lumps.{units_to}
 use Rattle.cell_coeffs.specs.SecondLumps.{amount_in, second_with_lump, IsLumped}
 use Rattle.cell_coeffs.proofs.DateLumps.{lump-found}
 use Rattle.thiele_backward.proofs.LumpedNumbers.{more}
-use Rattle.thiele_backward.proofs.NearNumbers.{at-units, past-units}
 use Rattle.moment_equations.specs.NearMoments.{AreNear, AreNearIn}
 use Rattle.moment_equations.proofs.DateLedgers.{date_near}
+use Rattle.linear_system.specs.StandsFor.{in_units}
+use Rattle.linear_system.proofs.NumbersInUnits.{at-units, past-units}
 
 -- halves of numbers that were split
 pub first-split : (S : ℕ) (front back : List ℤ) → length front ≡ S

@@ -1,7 +1,7 @@
 -- Intervals of first moments, of their squares and of variances, in units of 2^-64.
 use Rattle.std.specs.Prelude.{◌≡◌, ℕ, pos, negsuc, ◌+◌, ◌-◌, ◌*◌, ◌^◌, ◌≤◌}
 use Rattle.std.specs.Prelude.{ℤ, ◌+ℤ◌, ◌-ℤ◌, ◌*ℤ◌, ◌≤ℤ◌, ◌<ℤ◌, neg_ℤ, unsigned_abs}
-use Rattle.std.specs.Prelude.{cond, true, false, Bool, int_lt, [], ◌∷◌}
+use Rattle.std.specs.Prelude.{[], ◌∷◌}
 use Rattle.std.specs.Int.{w128, int_min, int_max}
 use Rattle.std.proofs.Common.{refl, ap, ◌∙◌, arith, FitsSigned}
 use Rattle.std.proofs.Math.Nat.{mul-le-mul}
@@ -16,6 +16,7 @@ use Rattle.frac_laws.proofs.RoundingLaws.{floor_low, floor_high, ceiling_low, ce
 use Rattle.frac_laws.proofs.Sizes.{le_of_size_le, opposite_le_of_size_le}
 use Rattle.fixed_interval.specs.Intervals.{LiesIn}
 use Rattle.fixed_interval.specs.declared.interval.Interval.{Interval}
+use Rattle.whole_laws.proofs.Extremes.{lesser_whole-has, greater_whole-has}
 
 -- 1, in units of 2^-64
 abbrev pub one : ℤ
@@ -127,21 +128,6 @@ module _ (a b : ℤ) (r : ℕ) (low : unsigned_abs a ≤ 2 ^ 64) (high : unsigne
 
 -- ---- what lies in them
 
--- a fact of the lesser or the greater of two numbers
-of_greater : (P : ℤ → Type 0) (x y : ℤ) → P x → P y → P (int_max x y)
-of_greater P x y hx hy = choose (int_lt y x)
-  where
-    choose : (b : Bool) → P (cond b x y)
-    choose true = hx
-    choose false = hy
-
-of_lesser : (P : ℤ → Type 0) (x y : ℤ) → P x → P y → P (int_min x y)
-of_lesser P x y hx hy = choose (int_lt y x)
-  where
-    choose : (b : Bool) → P (cond b y x)
-    choose true = hy
-    choose false = hx
-
 near_low : (z : ℤ) (r : ℕ) (x : Fraction) → size (x -ℚ over z (2 ^ 64)) ≤ℚ over (pos r) (2 ^ 64)
     → over (z -ℤ pos r) (2 ^ 64) ≤ℚ x
 near_low z r x near =
@@ -160,9 +146,9 @@ pub lies_met : (z : ℤ) (r : ℕ) (x : Fraction) (i : Interval) → i.lo ≡ in
     → i.hi ≡ int_min (z +ℤ pos r) one → size x ≤ℚ whole (pos 1)
     → size (x -ℚ over z (2 ^ 64)) ≤ℚ over (pos r) (2 ^ 64) → LiesIn x i
 lies_met z r x i low high small near = record {
-  at_least = rw low (of_greater (λ w. over w (2 ^ 64) ≤ℚ x) (z -ℤ pos r) minus_one (near_low z r x near)
+  at_least = rw low (greater_whole-has (λ w. over w (2 ^ 64) ≤ℚ x) (z -ℤ pos r) minus_one (near_low z r x near)
       (linear (x ∷ []) (opposite_le_of_size_le small) (hlevel claims) refl));
-  at_most = rw high (of_lesser (λ w. x ≤ℚ over w (2 ^ 64)) (z +ℤ pos r) one (near_high z r x near)
+  at_most = rw high (lesser_whole-has (λ w. x ≤ℚ over w (2 ^ 64)) (z +ℤ pos r) one (near_high z r x near)
       (linear (x ∷ []) (le_of_size_le small) (hlevel claims) refl));
 }
 

@@ -10,10 +10,10 @@ use Rattle.model_specs.specs.Payments.{payment_plan}
 use Rattle.model_specs.specs.Ledgers.{scale, radius_before_term, second_before_term}
 use Rattle.model_specs.specs.Runs.{moments_before_term}
 use Rattle.ledger_laws.specs.BeforeTermLaws.{radius_cells, second_cells}
-use Rattle.taylor_step.specs.Enclosures.{in_units}
 use Rattle.product_cells.specs.EachCell.{plan_scaling}
 use Rattle.sweep_laws.specs.ScaledSteps.{both_first, both_second}
 use Rattle.sweep_laws.specs.SweepLaws.{units}
+use Rattle.linear_system.specs.StandsFor.{in_units}
 
 -- the numbers of the first moments
 abbrev pub first_half : Product → List ℤ → Vector

@@ -1,6 +1,6 @@
 //! Tables of both moments and of variances, by date and state.
 
-ghost use Rattle.std.specs.Prelude.{◌≡◌, ℕ, ◌+◌, ◌*◌, ◌/◌, ◌^◌, ◌<◌, ◌≤◌, pos, IfOk, OnErr, length, replicate};
+ghost use Rattle.std.specs.Prelude.{◌≡◌, ◌+◌, ◌*◌, ◌/◌, ◌^◌, ◌<◌, ◌≤◌, pos, IfOk, OnErr, length, replicate};
 ghost use Rattle.named_numbers.specs.Numbers.{cells_of_month, least_degree, highest_degree};
 ghost use Rattle.cell_coeffs.specs.PairRows.{IsMadeForMoments};
 ghost use Rattle.limit_laws.specs.Modulus.{ReservesConverge, SecondMomentsConverge};

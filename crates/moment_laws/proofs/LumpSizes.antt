@@ -17,7 +17,7 @@ use Rattle.model_specs.specs.Product.{Product, Lump}
 use Rattle.model_specs.specs.Payments.{Plan, lump_at}
 use Rattle.model_specs.specs.Ledgers.{greatest_lump}
 use Rattle.model_specs.specs.Runs.{lump_vector}
-use Rattle.whole_laws.proofs.Extremes.{place_of_list, length-list_of}
+use Rattle.whole_laws.proofs.ListsByPlace.{length-list_of, at-list_of}
 use Rattle.cell_bounds.proofs.TableNorms.{vector_most}
 
 -- the size of what is given, and 0 where there is none
@@ -55,7 +55,7 @@ lump_within product plan date i b =
     let f : ℕ → Option (ℕ × ℤ) = λ k. option_map (λ l. (k, l.amount)) (found k) in
     let n = length product.states in
     rw (amount-is i (found i))
-    (rw (place_of_list n (λ k. k) i 0 b) at (given_within f (places n) i (rw (length-list_of n (λ k. k)) b)))
+    (rw (at-list_of n (λ k. k) i 0 b) at (given_within f (places n) i (rw (length-list_of n (λ k. k)) b)))
 
 pub size-whole : (z : ℤ) (n : ℕ) → unsigned_abs z ≤ n → size (whole z) ≤ℚ whole (pos n)
 size-whole z n h = size_le_of_between

@@ -11,7 +11,7 @@ use Rattle.cell_laws.specs.Systems.{sum_of_images, run, coefficients}
 use Rattle.cell_laws.specs.Pairs.{CoupledPair, received}
 use Rattle.cell_bounds.specs.ScaledSystems.{scaled_pair}
 use Rattle.moment_laws.specs.CellRuns.{TaylorValuesScale, SecondTaylorValuesScale}
-use Rattle.cell_bounds.proofs.TameSystems.{at-map}
+use Rattle.whole_laws.proofs.Members.{at-map}
 
 pub scale-add : (c : Fraction) (u v : Vector)
     → add_lists (scale_list c u) (scale_list c v) ≡ scale_list c (add_lists u v)

@@ -13,15 +13,14 @@ use Rattle.frac_laws.proofs.FractionTerms.{ring, terms}
 use Rattle.frac_laws.proofs.Sums.{sum_to_scale, sum_to_zeros}
 use Rattle.frac_laws.proofs.ListProducts.{number_at-product}
 use Rattle.frac_laws.proofs.Polynomials.{shifted-add_lists, shifted-scale_list}
-use Rattle.frac_laws.proofs.Lengths.{scale_list_fits}
+use Rattle.frac_laws.proofs.Lengths.{number_at-past}
 use Rattle.frac_laws.proofs.Vectors.{number_at-add_lists, number_at-scale_list}
-use Rattle.cell_laws.specs.Systems.{System, KeepsDimension}
 use Rattle.model_specs.specs.Cells.{CellCurves}
 use Rattle.model_specs.specs.Systems.{thiele_system, interest_at, intensity_at, sojourn_rate_at, leaving_at}
 use Rattle.model_specs.specs.Systems.{sum_paid_at, first_payment_at, backward_entry, where_same}
 use Rattle.model_laws.specs.Equations.{IsQuintic}
 use Rattle.model_laws.proofs.CellEntries.{systems_keep_states}
-use Rattle.model_laws.proofs.CellTables.{image-table, number-table, entry-zero, number_at-past, convolution-past}
+use Rattle.model_laws.proofs.CellTables.{image-table, number-table, entry-zero, convolution-past}
 use Rattle.cell_bounds.specs.ScaledSystems.{scaled_system}
 use Rattle.moment_laws.proofs.ScaledRuns.{free-scaled}
 use Rattle.polynomial_runs.specs.PolynomialSystems.{HasPolynomials, added}
@@ -31,6 +30,7 @@ use Rattle.month_grid.specs.CellPolynomials.{CellsHavePolynomials, MovedCellsHav
 use Rattle.shift_laws.proofs.Shifts.{products_shift}
 use Rattle.polynomial_runs.proofs.Tables.{number_at-added, shifted-added}
 use Rattle.polynomial_runs.proofs.MonthValues.{magnified}
+use Rattle.sweep_laws.proofs.ScaledSteps.{scaled_keeps}
 
 number_at-diagonal : (i j : ℕ) (p : List Fraction) (m : ℕ)
     → number_at (diagonal i j p) m ≡ where_same i j (number_at p m)
@@ -89,13 +89,6 @@ free-past cell m i quintic past = rw (
       (λ a c. number_at-past (cell.intensity i j) 6 a (quintic.intensity i j) c)
       (λ a c. number_at-past (cell.sum i j) 4 a (quintic.sum i j) c) (omega arith)),
 ) (ring [] (hlevel terms) refl)
-
--- a scaled system keeps its dimension
-scaled_keeps : (c : Fraction) (s : System) → KeepsDimension s → KeepsDimension (scaled_system c s)
-scaled_keeps c s keeps = record {
-  rows = keeps.rows;
-  free = λ k. rw (free-scaled c s.free k) (scale_list_fits s.dimension c (vector_at s.free k) (keeps.free k));
-}
 
 -- numbers that are those of the system
 by-numbers : (c : Fraction) (cell : CellCurves) (e : ℕ → ℕ → List Fraction) (g : ℕ → List Fraction) → IsQuintic cell

@@ -11,7 +11,7 @@ use Rattle.frac_laws.specs.Norms.{Sup}
 use Rattle.frac_laws.proofs.FractionTerms.{ring, terms}
 use Rattle.frac_laws.proofs.Linear.{linear, claims, natural, ◌⊞◌, ◌⊠◌, ◌·◌}
 use Rattle.frac_laws.proofs.Order.{le_trans, le_of_equal, le_lt_trans}
-use Rattle.frac_laws.proofs.Powers.{power_natural}
+use Rattle.frac_laws.proofs.Powers.{power_natural, whole_power}
 use Rattle.frac_laws.proofs.Quotients.{inverse, over_is, over_lt_of_cross}
 use Rattle.frac_laws.proofs.Norms.{number_below_norm}
 use Rattle.frac_laws.proofs.Sizes.{size_natural, size_mul_natural}
@@ -36,7 +36,7 @@ use Rattle.polynomial_runs.proofs.PowersOf12.{power_longer}
 use Rattle.month_grid.specs.MonthGridLaws.{DiffersByRadius, DiffersByLessThanAUnit, MonthGridIsNear}
 use Rattle.month_grid.specs.MonthGridLaws.{MonthGridIsWithinAUnit, MonthGridMeetsAtTheTerm}
 use Rattle.month_grid.proofs.FarWeights.{far_weight}
-use Rattle.month_grid.proofs.GridRuns.{HasTameMonths, whole_power, months_are_near}
+use Rattle.month_grid.proofs.GridRuns.{HasTameMonths, months_are_near}
 
 -- ---- an admissible product has what the months take
 

@@ -1,8 +1,6 @@
 -- From month to month: the radius carries the distance of the two runs.
-use Rattle.std.specs.Prelude.{◌≡◌, ℕ, zero, suc, pos, [], ◌∷◌, length, ◌<◌, ◌≤◌, ◌-◌, ◌*◌, ◌*ℤ◌, ◌^◌}
+use Rattle.std.specs.Prelude.{◌≡◌, ℕ, zero, suc, pos, [], ◌∷◌, length, ◌<◌, ◌≤◌, ◌-◌, ◌*◌, ◌^◌}
 use Rattle.std.proofs.Common.{refl, ap, sym, ◌∙◌, arith, lit≤}
-use Rattle.std.proofs.lemmas.Int.{ints}
-use Rattle.std.proofs.Math.Nat.{pow-zero, pow-suc}
 use mathlib.Core.Path.{ap₂}
 use Rattle.frac_laws.specs.Fraction.{Fraction, over, whole, ◌+ℚ◌, ◌-ℚ◌, ◌*ℚ◌, ◌≤ℚ◌}
 use Rattle.frac_laws.specs.Sums.{power}
@@ -12,8 +10,7 @@ use Rattle.frac_laws.proofs.FractionTerms.{ring, terms}
 use Rattle.frac_laws.proofs.Lengths.{add_lists_fits, scale_list_fits}
 use Rattle.frac_laws.proofs.Linear.{linear, claims, natural, ◌⊞◌, ◌⊠◌, ◌·◌}
 use Rattle.frac_laws.proofs.Order.{le_trans, le_of_equal}
-use Rattle.frac_laws.proofs.Powers.{power_natural, power_inverse}
-use Rattle.frac_laws.proofs.Quotients.{whole_mul}
+use Rattle.frac_laws.proofs.Powers.{power_natural, power_inverse, whole_power}
 use Rattle.frac_laws.proofs.Norms.{norm-same, norm-add_lists}
 use Rattle.frac_laws.proofs.Vectors.{number_at-add_lists, number_at-scale_list, number_at-subtract_lists}
 use Rattle.cell_laws.specs.Systems.{System, taylor_value}
@@ -68,16 +65,6 @@ months_scale c system n zero v = refl
 months_scale c system n (suc cells) v =
     ap (month_back (λ cell. scaled_system c (system cell)) n cells) (taylor_values_scale c (system cells) v n)
     ∙ months_scale c system n cells (taylor_value (system cells) v n)
-
--- whole powers
-pub whole_power : (b k : ℕ) → whole (pos (b ^ k)) ≡ power (whole (pos b)) k
-whole_power b zero = ap (λ x. whole (pos x)) (pow-zero b)
-whole_power b (suc k) = ap (λ x. whole (pos x)) (pow-suc b k) ∙ ap whole (product (b ^ k) b)
-    ∙ whole_mul (pos (b ^ k)) (pos b) ∙ ap (λ z. z *ℚ whole (pos b)) (whole_power b k)
-    ∙ ring (power (whole (pos b)) k ∷ whole (pos b) ∷ []) (hlevel terms) refl
-  where
-    product : (n m : ℕ) → pos (n * m) ≡ pos n *ℤ pos m
-    product n m = omega (arith, ints)
 
 -- the same lumps on both sides
 distance-with_lumps : (c : Fraction) (u v l : Vector)

@@ -3,7 +3,7 @@ use Rattle.std.proofs.Common.{◌≡◌, ℕ, ◌+◌, ◌-◌, ◌*◌, ℤ, po
 use Rattle.frac_laws.specs.Fraction.{Fraction, over}
 use Rattle.frac_laws.specs.Polynomials.{all_over, shifted, stretched}
 use Rattle.frac_laws.proofs.FractionTerms.{ring, terms}
-use Rattle.poly_small.proofs.Sixes.{over-zero}
+use Rattle.frac_laws.proofs.QuotientFacts.{over-zero}
 use Rattle.model_specs.specs.Product.{Step}
 use Rattle.model_specs.specs.Payments.{constant_step}
 use Rattle.model_specs.specs.MonthNumbers.{bernstein_numerators}

@@ -1,6 +1,6 @@
 -- The greatest and the least of numbers that rule 11 bounds, and the load of them.
 use Rattle.std.proofs.Common.{◌≡◌, ℕ, ◌+◌, ◌*◌, ◌≤◌, ℤ, pos, negsuc, ◌-ℤ◌, ◌≤ℤ◌, List, [], ◌∷◌}
-use Rattle.std.proofs.Common.{length, get_or, Fits, FitsSigned, arith, refl, ap, sym}
+use Rattle.std.proofs.Common.{Fits, FitsSigned, arith}
 use Rattle.std.specs.Prelude.{All, map, unsigned_abs}
 use Rattle.std.specs.Int.{div_ceil, int_max, int_min}
 use lib.Dec.{T}
@@ -10,7 +10,7 @@ use Rattle.std.proofs.lemmas.Int.{ints, fits_signed_from_abs}
 use Rattle.std.proofs.lemmas.List.Elements.{All-head, All-tail}
 use Rattle.named_numbers.specs.Numbers.{most_amount, bernstein_unit}
 use Rattle.whole_laws.specs.Whole.{greatest_natural, greatest_whole, least_whole, natural_part}
-use Rattle.poly_small.proofs.Sixes.{six_are_all}
+use Rattle.whole_laws.proofs.Numbers.{natural_part_is}
 use Rattle.payment_plan.specs.Loads.{AreWithin, load_of_numerators}
 
 size_of_max : (a b : ℤ) (l : ℕ) → unsigned_abs a ≤ l → unsigned_abs b ≤ l → unsigned_abs (int_max a b) ≤ l
@@ -69,10 +69,6 @@ natural_part_within : (z : ℤ) → natural_part z ≤ unsigned_abs z
 natural_part_within (pos n) = omega arith
 natural_part_within (negsuc n) = omega arith
 
-pub natural_part_is : (z : ℤ) → pos 0 ≤ℤ z → unsigned_abs z ≡ natural_part z
-natural_part_is (pos n) h = refl
-natural_part_is (negsuc n) h = absurd (omega (arith, ints))
-
 non_negative : (z : ℤ) → pos 0 ≤ℤ z → T (non_neg z)
 non_negative (pos n) h = tt
 non_negative (negsuc n) h = absurd (omega (arith, ints))
@@ -129,19 +125,3 @@ pub load_within : (xs : List ℤ) → AreWithin xs → load_of_numerators xs ≤
 load_within xs within =
     ceiling_within (greatest_natural (map unsigned_abs xs)) (natural_part (greatest_whole xs -ℤ least_whole xs))
     (parts_within xs within).0 (parts_within xs within).1
-
--- the greatest of six, pair by pair from the last
-pub greatest_of_six : (p : List ℤ) (m1 m2 m3 m4 m5 : ℤ) → length p ≡ 6
-    → m1 ≡ int_max (get_or p 4 (pos 0)) (get_or p 5 (pos 0)) → m2 ≡ int_max (get_or p 3 (pos 0)) m1
-    → m3 ≡ int_max (get_or p 2 (pos 0)) m2 → m4 ≡ int_max (get_or p 1 (pos 0)) m3
-    → m5 ≡ int_max (get_or p 0 (pos 0)) m4 → m5 ≡ greatest_whole p
-greatest_of_six p m1 m2 m3 m4 m5 six h1 h2 h3 h4 h5 =
-    rw (h5, h4, h3, h2, h1) (ap greatest_whole (sym (six_are_all p six)))
-
--- and the least
-pub least_of_six : (p : List ℤ) (m1 m2 m3 m4 m5 : ℤ) → length p ≡ 6
-    → m1 ≡ int_min (get_or p 4 (pos 0)) (get_or p 5 (pos 0)) → m2 ≡ int_min (get_or p 3 (pos 0)) m1
-    → m3 ≡ int_min (get_or p 2 (pos 0)) m2 → m4 ≡ int_min (get_or p 1 (pos 0)) m3
-    → m5 ≡ int_min (get_or p 0 (pos 0)) m4 → m5 ≡ least_whole p
-least_of_six p m1 m2 m3 m4 m5 six h1 h2 h3 h4 h5 =
-    rw (h5, h4, h3, h2, h1) (ap least_whole (sym (six_are_all p six)))

@@ -9,8 +9,8 @@ use Rattle.curve_pieces.specs.StartMonths.{starts_as}
 use Rattle.payment_plan.specs.declared.step.StepAmount.{StepAmount}
 use Rattle.payment_plan.specs.Records.{record_of, piece_of, steps_of, starts_of}
 use Rattle.payment_plan.specs.Steps.{HasGoodSteps, CoversMonth}
-use Rattle.curve_pieces.proofs.Covering.{bounded_shorter}
 use Rattle.curve_pieces.proofs.Lookups.{IsFound, found_record, found_start, found_covers, found_holds}
+use Rattle.model_laws.proofs.BoundedCoefficients.{bounded_shorter}
 
 -- the step that pays nothing
 abbrev nothing : Step

@@ -15,6 +15,7 @@ use Rattle.model_specs.specs.Payments.{lumps_at, continuous_pattern, dated_patte
 use Rattle.payment_plan.specs.Payments.{Payments, pattern_of}
 use Rattle.payment_plan.specs.Tables.{payer_at, payers_in_order, pays_at_date}
 use Rattle.whole_laws.proofs.Places.{places-agree, places-none}
+use Rattle.whole_laws.proofs.Tests.{both_pass}
 use Rattle.std.proofs.lemmas.Bool.{cases_lt}
 
 -- the lumps of 1 at a date
@@ -138,10 +139,6 @@ same_answer true b h k = sym (h refl)
 same_answer false true h k = k refl
 same_answer false false h k = refl
 
-both_true : (a b : Bool) → (a && b) ≡ true → (a ≡ true) × (b ≡ true)
-both_true true b h = (refl, h)
-both_true false b h = cc
-
 is_below : (a b : ℕ) → nat_lt a b ≡ true → a < b
 is_below a b h = grind (arith, nat_tests)
 
@@ -169,7 +166,7 @@ dates_tell until e date some =
     back : (nat_lt date until && (date % e == 0)) ≡ true
         → list_any (λ d. d == date) (list_of (div_ceil until e) (λ k. k * e)) ≡ true
     back h =
-        let parts = both_true (nat_lt date until) (date % e == 0) h in
+        let parts = both_pass (nat_lt date until) (date % e == 0) h in
         let whole : date % e ≡ 0 = eqb-true (date % e) 0 parts.1 in
         let is : date / e * e ≡ date = omega (arith, mul_comm e (date / e), div-add-mod date e) in
         let below : date / e * e < until = omega (arith, is_below date until parts.0) in

@@ -10,11 +10,13 @@ use Rattle.frac_laws.proofs.FractionTerms.{ring, terms}
 use Rattle.frac_laws.proofs.Quotients.{over_is}
 use Rattle.named_numbers.specs.Numbers.{cells_of_year}
 use Rattle.frac_laws.proofs.Polynomials.{shifted-stretched, stretched-stretched, length-shifted}
-use Rattle.poly_small.proofs.Sixes.{over-zero}
+use Rattle.frac_laws.proofs.Lengths.{length-all_over}
+use Rattle.frac_laws.proofs.QuotientFacts.{over-zero}
 use Rattle.poly_small.proofs.Units.{in_units-stretched}
 use Rattle.poly_small.specs.WholePolynomials.{in_units_of}
-use Rattle.curve_pieces.proofs.FourCoefficients.{four_are_all, padded}
-use Rattle.curve_pieces.proofs.Cells.{cells_in_years}
+use Rattle.model_laws.proofs.FourCoefficients.{padded}
+use Rattle.model_laws.proofs.CellEntries.{cells_in_years}
+use Rattle.whole_laws.proofs.ShortLists.{four_are_all}
 
 -- a zero as the last coefficient
 abbrev pub none : List Fraction
@@ -61,10 +63,6 @@ all_over-take d (suc n) (c ∷ p) = ap (λ z. over c d ∷ z) (all_over-take d n
 all_over-padded : (d : ℕ) (p : List ℤ) → all_over d (padded p) ≡ all_over d p ++ none ++ none
 all_over-padded d [] = ap₂ (λ z w. z ∷ w ∷ []) (over-zero d) (over-zero d)
 all_over-padded d (c ∷ p) = ap (λ z. over c d ∷ z) (all_over-padded d p)
-
-length-all_over : (d : ℕ) (p : List ℤ) → length (all_over d p) ≡ length p
-length-all_over d [] = refl
-length-all_over d (c ∷ p) = ap suc (length-all_over d p)
 
 -- the first coefficients of a shift, where zeros stand behind them
 first_shifted : (b : Fraction) (p : List Fraction) → take (length p) (shifted b (p ++ none ++ none)) ≡ shifted b p

@@ -1,5 +1,5 @@
 -- The rule on the size of a step bounds the numbers that a cell or a month of it forms.
-use Rattle.std.proofs.Common.{◌≡◌, ℕ, zero, suc, ◌+◌, ◌*◌, ◌^◌, ◌<◌, ◌≤◌, ℤ, List, [], ◌∷◌, length, max}
+use Rattle.std.proofs.Common.{◌≡◌, ℕ, ◌+◌, ◌*◌, ◌^◌, ◌<◌, ◌≤◌, ℤ, List, [], ◌∷◌, length, max}
 use Rattle.std.proofs.Common.{◌-◌, take, arith, ap}
 use Rattle.std.specs.Prelude.{unsigned_abs}
 use Rattle.named_numbers.specs.Numbers.{months_of_year, cells_of_month, cells_of_year}
@@ -7,23 +7,14 @@ use Rattle.model_specs.specs.RecordRules.{IsBounded, IsBoundedStep}
 use Rattle.payment_plan.specs.declared.step.StepAmount.{StepAmount}
 use Rattle.poly_small.specs.WholePolynomials.{value_of_sizes, in_units_of}
 use Rattle.poly_small.proofs.Values.{value_of_sizes-grows}
-use Rattle.curve_pieces.proofs.FourCoefficients.{padded, length-padded, padded_bounded}
+use Rattle.poly_small.proofs.Shifts.{value_of_sizes-take}
+use Rattle.model_laws.proofs.FourCoefficients.{padded, length-padded, padded_bounded}
 use Rattle.curve_pieces.proofs.Sizes.{bounded_sizes, month_fits}
 
 -- zeros add nothing to a value of sizes
 value_of_sizes-padded : (p : List ℤ) (x : ℕ) → value_of_sizes (padded p) x ≡ value_of_sizes p x
 value_of_sizes-padded [] x = omega arith
 value_of_sizes-padded (c ∷ p) x = ap (λ z. unsigned_abs c + x * z) (value_of_sizes-padded p x)
-
--- nor do the first four of six have a greater value than all
-value_of_sizes-take : (p : List ℤ) (n x : ℕ) → value_of_sizes (take n p) x ≤ value_of_sizes p x
-value_of_sizes-take [] zero x = omega arith
-value_of_sizes-take [] (suc n) x = omega arith
-value_of_sizes-take (c ∷ p) zero x = omega arith
-value_of_sizes-take (c ∷ p) (suc n) x = grows (unsigned_abs c) _ _ x (value_of_sizes-take p n x)
-  where
-    grows : (a v w x : ℕ) → v ≤ w → a + x * v ≤ a + x * w
-    grows a v w x h = grind arith
 
 -- in cells: from a step's start to the end of its month k there are 32 (k + 1) cells
 cell_sizes : (p : List ℤ) (k x : ℕ) → length p ≡ 4 → IsBounded p (k + 1) → x ≤ cells_of_month * (k + 1)

@@ -19,7 +19,8 @@ use Rattle.payment_plan.specs.Records.{lumps_of}
 use Rattle.payment_plan.specs.Tables.{with_state, amount_at, row_upto, row_at, dated_lumps, lists_of}
 use Rattle.payment_plan.specs.Tables.{is_payer, payer_at, payers_in_order}
 use Rattle.std.proofs.lemmas.Bool.{cases_lt}
-use Rattle.whole_laws.proofs.Places.{places-agree, places-more, list_of-more}
+use Rattle.whole_laws.proofs.Places.{places-agree, places-more}
+use Rattle.whole_laws.proofs.ListsByPlace.{list_of-more}
 
 next_row : (s m n : ℕ) → m < n → m * s + s ≤ n * s
 next_row s m n h = let row : suc m ≤ n = omega arith in omega (arith, mul-le-mul_right s row)

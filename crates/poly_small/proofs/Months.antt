@@ -11,9 +11,10 @@ use Rattle.frac_laws.proofs.Quotients.{over_is}
 use Rattle.frac_laws.proofs.Polynomials.{shifted-stretched}
 use Rattle.poly_small.specs.WholePolynomials.{whole_value_at, value_of_sizes, weighted}
 use Rattle.poly_small.proofs.Values.{value_of_sizes-grows, whole_value-size}
-use Rattle.poly_small.proofs.Sixes.{six_are_all, over-product, over-whole_value}
+use Rattle.poly_small.proofs.Sixes.{over-product, over-whole_value}
 use Rattle.poly_small.proofs.Shifts.{greatest_size, weighted_within, row_size}
 use Rattle.poly_small.proofs.Units.{over-times}
+use Rattle.whole_laws.proofs.ShortLists.{six_are_all}
 
 -- the coefficient 0, over ten times the denominator
 abbrev pub numerator-0 : List ℤ → ℤ

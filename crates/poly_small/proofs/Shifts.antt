@@ -3,7 +3,7 @@ use Rattle.std.proofs.Common.{◌≡◌, ℕ, suc, ◌*◌, ◌^◌, ◌<◌, �
 use Rattle.std.proofs.Common.{take, drop, get_or, get_or-drop, arith, refl, ap, sym, subst, ◌∙◌}
 use mathlib.Core.Path.{ap₂}
 use Rattle.std.specs.Prelude.{unsigned_abs}
-use Rattle.std.proofs.Math.Nat.{mul_assoc, mul_comm, mul-le-mul_left, mul-le-mul_right}
+use Rattle.std.proofs.Math.Nat.{mul_assoc, mul_comm, mul-le-mul_left}
 use Rattle.std.proofs.lemmas.Int.{unsigned_abs-mul}
 use Rattle.frac_laws.specs.Fraction.{over, whole}
 use Rattle.frac_laws.specs.Lists.{number_at}
@@ -11,7 +11,9 @@ use Rattle.frac_laws.specs.Polynomials.{all_over, shifted}
 use Rattle.frac_laws.proofs.FractionTerms.{ring, terms}
 use Rattle.poly_small.specs.WholePolynomials.{whole_value_at, value_of_sizes, weighted}
 use Rattle.poly_small.proofs.Values.{value_of_sizes-grows, value_of_sizes-drop, whole_value-size}
-use Rattle.poly_small.proofs.Sixes.{six_are_all, over-product, over-whole_value}
+use Rattle.poly_small.proofs.Sixes.{over-product, over-whole_value}
+use Rattle.whole_laws.proofs.Numbers.{nat_product_le}
+use Rattle.whole_laws.proofs.ShortLists.{six_are_all}
 
 -- the coefficients from 0 on, with the column 0 of Pascal's triangle as weights
 abbrev pub row-0 : List ℤ → List ℤ
@@ -114,9 +116,6 @@ abbrev pub greatest_size : List ℤ → ℕ
 greatest_size [] = 0
 greatest_size (w ∷ weights) = max (unsigned_abs w) (greatest_size weights)
 
-grown_weight : (w g c : ℕ) → w ≤ g → w * c ≤ g * c
-grown_weight w g c h = mul-le-mul_right c h
-
 moved_factor : (x g v : ℕ) → x * (g * v) ≡ g * (x * v)
 moved_factor x g v = sym (mul_assoc x g v) ∙ ap (λ z. z * v) (mul_comm x g) ∙ mul_assoc g x v
 
@@ -130,12 +129,12 @@ weighted_within (c ∷ p) (w ∷ weights) g x h =
     omega (
       arith,
       unsigned_abs-mul w c,
-      grown_weight (unsigned_abs w) g (unsigned_abs c) (omega arith),
+      nat_product_le (unsigned_abs w) g (unsigned_abs c) (omega arith),
       rest,
       moved_factor x g (value_of_sizes p x),
     )
 
-value_of_sizes-take : (p : List ℤ) (n x : ℕ) → value_of_sizes (take n p) x ≤ value_of_sizes p x
+pub value_of_sizes-take : (p : List ℤ) (n x : ℕ) → value_of_sizes (take n p) x ≤ value_of_sizes p x
 value_of_sizes-take [] zero x = omega arith
 value_of_sizes-take [] (suc n) x = omega arith
 value_of_sizes-take (c ∷ p) zero x = omega arith

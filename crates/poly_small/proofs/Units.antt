@@ -10,14 +10,16 @@ use Rattle.frac_laws.specs.Fraction.{over, opposite, ◌-ℚ◌, ◌*ℚ◌}
 use Rattle.frac_laws.specs.Lists.{scale_list}
 use Rattle.frac_laws.specs.Polynomials.{all_over, stretched, reflected}
 use Rattle.frac_laws.proofs.FractionTerms.{ring, terms}
-use Rattle.frac_laws.proofs.Quotients.{over_mul, over_scale, over_sub, times_one}
+use Rattle.frac_laws.proofs.Quotients.{over_mul, over_scale, over_sub}
+use Rattle.frac_laws.proofs.QuotientFacts.{over-zero}
 use Rattle.poly_small.specs.WholePolynomials.{value_of_sizes, in_units_of}
-use Rattle.poly_small.proofs.Sixes.{six_are_all, over-zero}
 use Rattle.poly_small.proofs.Values.{coefficient_within}
+use Rattle.frac_base.proofs.WholeRing.{mul_one}
+use Rattle.whole_laws.proofs.ShortLists.{six_are_all}
 
 pub over-times : (n : ℤ) (d u : ℕ) → 1 ≤ d → 1 ≤ u → over n (d * u) ≡ over (pos 1) u *ℚ over n d
 over-times n d u positive unit =
-    ap (λ m. over m (d * u)) (sym (times_one n)) ∙ sym (over_mul n (pos 1) d u positive unit)
+    ap (λ m. over m (d * u)) (sym (mul_one n)) ∙ sym (over_mul n (pos 1) d u positive unit)
     ∙ ring (over n d ∷ over (pos 1) u ∷ []) (hlevel terms) refl
 
 pub all_over-times : (ns : List ℤ) (d u : ℕ) → 1 ≤ d → 1 ≤ u
@@ -98,7 +100,7 @@ pub record ProductsAre (p : List ℤ) (u : ℕ) (r0 r1 r2 r3 r4 : ℤ) : Type 0 
   pub fifth : r4 ≡ get_or p 4 (pos 0) *ℤ pos (u ^ 1)
 
 times_no_power : (n : ℤ) (u : ℕ) → n *ℤ pos (u ^ 0) ≡ n
-times_no_power n u = ap (λ z. n *ℤ pos z) (pow-zero u) ∙ times_one n
+times_no_power n u = ap (λ z. n *ℤ pos z) (pow-zero u) ∙ mul_one n
 
 six_products : (c0 c1 c2 c3 c4 c5 r0 r1 r2 r3 r4 : ℤ) (u : ℕ)
     → ProductsAre (c0 ∷ c1 ∷ c2 ∷ c3 ∷ c4 ∷ c5 ∷ []) u r0 r1 r2 r3 r4

@@ -5,9 +5,10 @@ use Rattle.std.specs.Prelude.{unsigned_abs}
 use Rattle.std.specs.Int.{w128}
 use Rattle.std.proofs.Math.Nat.{mul-le-mul_left, mul-le-mul_right}
 use Rattle.std.proofs.Math.Seq.{drop-cons}
-use Rattle.std.proofs.lemmas.Int.{ints, unsigned_abs-mul, fits_signed_from_abs}
+use Rattle.std.proofs.lemmas.Int.{unsigned_abs-mul, fits_signed_from_abs}
 use Rattle.std.proofs.lemmas.List.{drop_all}
 use Rattle.poly_small.specs.WholePolynomials.{whole_value_at, value_of_sizes, weighted}
+use Rattle.whole_laws.proofs.Numbers.{size_of_sum}
 
 products_keep_order : (a b x y : ℕ) → a ≤ b → x ≤ y → x * a ≤ y * b
 products_keep_order a b x y h k = grind arith
@@ -31,9 +32,6 @@ value_of_sizes-drop [] (suc i) x = omega arith
 value_of_sizes-drop (c ∷ p) zero x = omega arith
 value_of_sizes-drop (c ∷ p) (suc i) x =
     omega (arith, value_of_sizes-drop p i x, once_at_least (value_of_sizes p (max x 1)) x)
-
-size_of_sum : (s t : ℤ) → unsigned_abs (s +ℤ t) ≤ unsigned_abs s + unsigned_abs t
-size_of_sum s t = grind (arith, ints)
 
 -- the value is no greater than the value of sizes
 pub whole_value-size : (p : List ℤ) (x : ℕ) → unsigned_abs (whole_value_at p x) ≤ value_of_sizes p x

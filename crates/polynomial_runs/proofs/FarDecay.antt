@@ -19,6 +19,7 @@ use Rattle.cell_laws.proofs.TameSums.{matrix_norms_natural, norm_of_none}
 use Rattle.step_laws.proofs.Grown.{whole_numbers_le}
 use Rattle.polynomial_runs.specs.FarDecay.{DecaysFar, FarCoefficientsDecay}
 use Rattle.polynomial_runs.proofs.PowersOf12.{power_longer, power_of_48}
+use Rattle.whole_laws.proofs.Numbers.{at_most_or_next}
 
 -- the bound of 48^k |y_k|
 abbrev pub far_bound : ℕ → Fraction
@@ -27,9 +28,6 @@ far_bound t = whole (pos 2) *ℚ power (whole (pos 6)) t
 pub far_bound_natural : (t : ℕ) → whole (pos 0) ≤ℚ far_bound t
 far_bound_natural t = linear (power (whole (pos 6)) t ∷ [])
     (natural 2 1 ⊠ power_natural {x = whole (pos 6)} t (natural 6 1)) (hlevel claims) refl
-
-at_most_or_next : (n m : ℕ) → n ≤ suc m → (n ≤ m) ⊎ (n ≡ suc m)
-at_most_or_next n m b = grind arith
 
 early_or_late : (n t : ℕ) → (n ≤ t) ⊎ (t < n)
 early_or_late n t = grind arith

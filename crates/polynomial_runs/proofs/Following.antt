@@ -21,7 +21,7 @@ use Rattle.cell_laws.specs.Solutions.{Solves}
 use Rattle.cell_laws.specs.Tame.{matrix_norm_at, IsTame}
 use Rattle.cell_laws.specs.DecayLaws.{norms}
 use Rattle.cell_laws.specs.ErrorLaws.{distance}
-use Rattle.cell_laws.proofs.VectorSums.{sum_over, number_at-sum_over, norm-sum_over}
+use Rattle.cell_laws.proofs.VectorSums.{sum_over, number_at-sum_over, norm-sum_over, norm_of_none}
 use Rattle.cell_laws.proofs.Recurrences.{coefficients_recur, taylor_value_sums}
 use Rattle.cell_laws.proofs.Solutions.{solutions_are_driven, defects_respond}
 use Rattle.cell_laws.proofs.TameSums.{total_within}
@@ -30,7 +30,7 @@ use Rattle.polynomial_runs.specs.PolynomialSystems.{HasPolynomials, table, value
 use Rattle.shift_laws.proofs.Shifts.{first_of_shifted, sums_of_shifted, shifted_sizes}
 use Rattle.polynomial_runs.proofs.Tables.{number_at-shifted_residual, table-at, table-past, values-at, values-past}
 use Rattle.polynomial_runs.proofs.Tables.{convolved-subtract, convolved-table, convolved-past, free-past}
-use Rattle.polynomial_runs.proofs.Tables.{norms_of_table, norm-none}
+use Rattle.polynomial_runs.proofs.Tables.{norms_of_table}
 
 module _ (norm : Norm) (kappa40 : ℕ) (s : System) (d : ℕ) (e : ℕ → ℕ → List Fraction)
     (g p : ℕ → List Fraction) (b : Fraction) (n : ℕ) (t : IsTame norm kappa40 s)
@@ -126,7 +126,7 @@ module _ (norm : Norm) (kappa40 : ℕ) (s : System) (d : ℕ) (e : ℕ → ℕ �
       (sum_to d (λ i. size_at (whole (pos 1) +ℚ b) (residual d e g p i)))
       (le_trans (le_of_equal (norm-same norm _ (sum_over (suc n) apart) total-apart))
       (norm-sum_over norm (suc n) apart))
-      apart-small (le_trans (le_of_equal (norm-same norm (apart 0) [] start-same)) (norm-none norm)) missed-small
+      apart-small (le_trans (le_of_equal (norm-same norm (apart 0) [] start-same)) (norm_of_none norm)) missed-small
     where
       combine : (x y z u v : Fraction) → x ≤ℚ y → whole (pos 63) *ℚ y ≤ℚ whole (pos 64) *ℚ (z +ℚ u)
           → z ≤ℚ whole (pos 0) → u ≤ℚ v → whole (pos 63) *ℚ x ≤ℚ whole (pos 64) *ℚ v

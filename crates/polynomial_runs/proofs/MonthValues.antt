@@ -1,6 +1,6 @@
 -- A whole month as one cell: its coefficients are those of the last cell times powers, so its Taylor value is the
 -- polynomial's value.
-use Rattle.std.specs.Prelude.{◌≡◌, ℕ, zero, suc, pos, List, [], ◌∷◌, length, ◌<◌, ◌≤◌, ◌+◌, ◌-◌, ◌⊎◌}
+use Rattle.std.specs.Prelude.{◌≡◌, ℕ, zero, suc, pos, List, [], ◌∷◌, length, ◌<◌, ◌≤◌, ◌+◌, ◌-◌}
 use Rattle.std.proofs.Common.{refl, ap, sym, ◌∙◌, inl, inr, arith}
 use Rattle.std.proofs.lemmas.Bool.{cases_lt}
 use Rattle.std.proofs.lemmas.List.{get_or_past}
@@ -20,6 +20,7 @@ use Rattle.cell_laws.proofs.Cancelling.{cancel_suc}
 use Rattle.cell_laws.proofs.Dimensions.{taylor_values_keep_dimension}
 use Rattle.cell_laws.proofs.Recurrences.{coefficients_recur, taylor_value_sums}
 use Rattle.whole_laws.proofs.ListsByPlace.{at-list_of, length-list_of}
+use Rattle.whole_laws.proofs.Numbers.{at_most_or_next}
 use Rattle.polynomial_runs.specs.PolynomialSystems.{HasPolynomials}
 use Rattle.polynomial_runs.specs.FarDecay.{run_polynomial}
 use Rattle.polynomial_runs.specs.MonthPolynomials.{IsMagnified, MonthsAreValues}
@@ -38,9 +39,6 @@ value_at-sum (c ∷ p) x = ap (λ z. c +ℚ x *ℚ z) (value_at-sum p x)
     ∙ ap (λ z. whole (pos 1) *ℚ c +ℚ z) (sym (sum_to_scale (length p) x (λ k. power x k *ℚ number_at p k))
     ∙ ap (sum_to (length p)) (fun_ext (λ k. ring (x ∷ power x k ∷ number_at p k ∷ []) (hlevel terms) refl)))
     ∙ sym (sum_to_first (length p) (λ k. power x k *ℚ number_at (c ∷ p) k))
-
-at_most_or_next : (n m : ℕ) → n ≤ suc m → (n ≤ m) ⊎ (n ≡ suc m)
-at_most_or_next n m b = grind arith
 
 -- a convolution of magnified sequences
 pub magnified : (w : Fraction) (a b f h : ℕ → Fraction) (k : ℕ) → ((m : ℕ) → b m ≡ power w (suc m) *ℚ a m)

@@ -22,15 +22,17 @@ use Rattle.frac_laws.proofs.Quotients.{whole_suc}
 use Rattle.frac_laws.proofs.Norms.{norm_natural, size_zero}
 use Rattle.frac_laws.proofs.ListProducts.{number_at-product}
 use Rattle.frac_laws.proofs.Vectors.{number_at-add_lists, number_at-subtract_lists}
-use Rattle.frac_laws.proofs.Vectors.{number_at-image, dot-add_right, dot-scale_right}
+use Rattle.frac_laws.proofs.Vectors.{number_at-image}
 use Rattle.frac_laws.proofs.Polynomials.{shifted-add_lists, shifted-scale_list}
 use Rattle.cell_laws.specs.Systems.{System}
 use Rattle.cell_laws.specs.Recurrence.{convolved}
+use Rattle.cell_laws.proofs.VectorSums.{norm_of_none}
 use Rattle.whole_laws.specs.Whole.{list_of}
 use Rattle.whole_laws.proofs.ListsByPlace.{at-list_of, past-list_of}
 use Rattle.shift_laws.specs.Shifts.{derivative, size_at}
 use Rattle.polynomial_runs.specs.PolynomialSystems.{HasPolynomials, table, values, added, residual}
 use Rattle.shift_laws.proofs.Shifts.{products_shift, derivatives_shift, size_at-natural}
+use Rattle.step_laws.proofs.Images.{image-subtract}
 
 -- added polynomials
 pub number_at-added : (d : ℕ) (f : ℕ → List Fraction) (k : ℕ)
@@ -106,15 +108,6 @@ pub values-past : (d : ℕ) (p : ℕ → List Fraction) (x : Fraction) (i : ℕ)
     → number_at (values d p x) i ≡ whole (pos 0)
 values-past d p x i b = past-list_of d (λ i. value_at (p i) x) i (whole (pos 0)) b
 
--- images of differences
-image-subtract : (a : Matrix) (u v : Vector) (i : ℕ)
-    → number_at (image a (subtract_lists u v)) i ≡ number_at (image a u) i -ℚ number_at (image a v) i
-image-subtract a u v i = number_at-image a (subtract_lists u v) i
-    ∙ dot-add_right (vector_at a i) u (scale_list _ v)
-    ∙ ap (λ z. dot (vector_at a i) u +ℚ z) (dot-scale_right _ (vector_at a i) v)
-    ∙ ring (dot (vector_at a i) u ∷ dot (vector_at a i) v ∷ []) (hlevel terms) refl
-    ∙ sym (ap₂ ◌-ℚ◌ (number_at-image a u i) (number_at-image a v i))
-
 pub convolved-subtract : (matrices : List Matrix) (y x : ℕ → Vector) (k i : ℕ)
     → convolved matrices (λ m. subtract_lists (y m) (x m)) k i ≡ convolved matrices y k i -ℚ convolved matrices x k i
 convolved-subtract matrices y x k i =
@@ -155,13 +148,9 @@ norm-longer Sup x v = greater_le (size x) (norm_of_vector Sup v)
     (linear (size x ∷ norm_of_vector Sup v ∷ []) (size_natural x) (hlevel claims) refl)
 norm-longer Sum x v = le_refl _
 
-pub norm-none : (norm : Norm) → norm_of_vector norm [] ≤ℚ whole (pos 0)
-norm-none Sup = le_refl _
-norm-none Sum = le_refl _
-
 pub norm-list_of : (norm : Norm) (d : ℕ) (f : ℕ → Fraction)
     → norm_of_vector norm (list_of d f) ≤ℚ sum_to d (λ i. size (f i))
-norm-list_of norm zero f = norm-none norm
+norm-list_of norm zero f = norm_of_none norm
 norm-list_of norm (suc d) f = le_trans (norm-longer norm (f 0) (list_of d (λ i. f (suc i))))
     (rw (sum_to_first d (λ i. size (f i))) (add_mono (le_refl _) (norm-list_of norm d (λ i. f (suc i)))))
 

@@ -11,12 +11,12 @@ use Rattle.frac_laws.proofs.WholeProducts.{product_le}
 use Rattle.fixed_interval.specs.declared.interval.Interval.{Interval}
 use Rattle.fixed_interval.specs.declared.printed.Printed.{Printed}
 use Rattle.fixed_interval.specs.Intervals.{LiesIn}
-use Rattle.fixed_interval.proofs.Ends.{of_least, of_greatest, least_le_left, least_le_right}
-use Rattle.fixed_interval.proofs.Ends.{left_le_greatest, right_le_greatest}
 use Rattle.model_specs.specs.Rows.{IsPremium}
 use Rattle.premium_solver.specs.Quotients.{least_divisor, low_quotient, high_quotient, largest_size}
 use Rattle.premium_solver.specs.Quotients.{AreQuotientsCloseFor}
 use Rattle.premium_solver.proofs.QuotientEnds.{low_encloses, high_encloses, rounded_apart, IsBetweenDivisors}
+use Rattle.whole_laws.proofs.Extremes.{lesser_whole-has, greater_whole-has, least_le_left, least_le_right}
+use Rattle.whole_laws.proofs.Extremes.{left_le_greatest, right_le_greatest}
 
 abbrev million : ℤ
 million = pos (10 ^ 6)
@@ -78,7 +78,7 @@ low_divisor : (b p : Interval) → pos least_divisor ≤ℤ p.lo
     (λ d. (low_quotient b p ≡ floor_of (b.lo *ℤ million) (pos d))
     × (ceiling_of (b.hi *ℤ million) (pos d) ≤ℤ high_quotient b p))
 low_divisor b p least =
-    of_least
+    lesser_whole-has
     (λ z. IsBetweenDivisors (unsigned_abs p.lo) (unsigned_abs p.hi)
     (λ d. (z ≡ floor_of (b.lo *ℤ million) (pos d)) × (ceiling_of (b.hi *ℤ million) (pos d) ≤ℤ high_quotient b p)))
     (floor_of (b.lo *ℤ million) p.lo) (floor_of (b.lo *ℤ million) p.hi)
@@ -106,7 +106,7 @@ high_divisor : (b p : Interval) → pos least_divisor ≤ℤ p.lo
     (λ d. (high_quotient b p ≡ ceiling_of (b.hi *ℤ million) (pos d))
     × (low_quotient b p ≤ℤ floor_of (b.lo *ℤ million) (pos d)))
 high_divisor b p least =
-    of_greatest
+    greater_whole-has
     (λ z. IsBetweenDivisors (unsigned_abs p.lo) (unsigned_abs p.hi)
     (λ d. (z ≡ ceiling_of (b.hi *ℤ million) (pos d)) × (low_quotient b p ≤ℤ floor_of (b.lo *ℤ million) (pos d))))
     (ceiling_of (b.hi *ℤ million) p.lo) (ceiling_of (b.hi *ℤ million) p.hi)

@@ -10,8 +10,8 @@ use Rattle.named_numbers.specs.Numbers.{highest_degree}
 use Rattle.frac_laws.specs.Fraction.{Fraction, whole, over, ◌+ℚ◌, ◌*ℚ◌, ◌≤ℚ◌}
 use Rattle.frac_laws.proofs.Linear.{linear, claims, natural, ◌⊞◌, ◌⊠◌}
 use Rattle.frac_laws.proofs.Order.{le_trans}
-use Rattle.frac_laws.proofs.Quotients.{over_mul, over_le_of_cross, cross_of_over_le}
-use Rattle.frac_laws.proofs.WholeProducts.{product_le, product_le_cancel}
+use Rattle.frac_laws.proofs.Quotients.{over_mul, over_le_of_cross, cross_of_over_le, units_le}
+use Rattle.frac_laws.proofs.WholeProducts.{product_le_cancel}
 use Rattle.fixed_interval.specs.declared.interval.Interval.{Interval}
 use Rattle.fixed_interval.specs.declared.printed.Printed.{Printed}
 use Rattle.fixed_interval.specs.declared.tables.Valued.{Valued}
@@ -113,14 +113,11 @@ premium_is_close product b p ends n valued_b valued_p close from =
 
 -- ---- small patterns
 
-over_le : (a b : ℤ) → a ≤ℤ b → over a (2 ^ 64) ≤ℚ over b (2 ^ 64)
-over_le a b h = over_le_of_cross a b (2 ^ 64) (2 ^ 64) (omega arith) (omega arith) (product_le a b (2 ^ 64) h)
-
 pub pattern_large : (product : Product) (p : Valued) (n : ℕ) → IsValueAtIssue product (pattern_plan product) p
     → pos least_divisor ≤ℤ p.interval.lo → p.degree ≤ n
     → over (pos least_divisor) (2 ^ 64) ≤ℚ pattern_value product n
 pattern_large product p n valued least from =
-    le_trans (over_le (pos least_divisor) p.interval.lo least) (valued.holds n from).at_least
+    le_trans (units_le (pos least_divisor) p.interval.lo least) (valued.holds n from).at_least
 
 pub too_small : (product : Product) (p : Valued) (low : ℤ) → IsValueAtIssue product (pattern_plan product) p
     → HasEndsUpTo most_divisor p.interval → p.interval.lo <ℤ pos least_divisor → low ≡ p.interval.lo
@@ -129,7 +126,7 @@ too_small product p low valued ends below low_is = subst (IsTooSmall product) (s
   below = below;
   small = ends.lo;
   at_least = λ n from. (valued.holds n (reached n from)).at_least;
-  at_most = λ n from. le_trans (valued.holds n (reached n from)).at_most (over_le p.interval.hi _ valued.narrow);
+  at_most = λ n from. le_trans (valued.holds n (reached n from)).at_most (units_le p.interval.hi _ valued.narrow);
 })
   where
     reached : (n : ℕ) → highest_degree ≤ n → p.degree ≤ n

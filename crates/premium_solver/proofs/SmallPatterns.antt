@@ -13,7 +13,7 @@ use mathlib.Core.Path.{ap₂}
 use Rattle.named_numbers.specs.Numbers.{highest_degree}
 use Rattle.frac_laws.specs.Fraction.{Fraction, whole, over, size, ◌≤ℚ◌}
 use Rattle.frac_laws.proofs.Order.{le_trans}
-use Rattle.frac_laws.proofs.Quotients.{cross_of_over_le, whole-opposite, times_one}
+use Rattle.frac_laws.proofs.Quotients.{cross_of_over_le, whole-opposite}
 use Rattle.frac_laws.proofs.Sizes.{le_of_size_le, opposite_le_of_size_le}
 use Rattle.frac_laws.proofs.WholeProducts.{neg-product}
 use Rattle.fixed_interval.specs.declared.tables.Valued.{Valued}
@@ -28,12 +28,14 @@ use Rattle.model_specs.specs.Stretches.{is_constant}
 use Rattle.model_specs.specs.ValuationRules.{IsAdmissible}
 use Rattle.model_specs.specs.Curve.{piece_at}
 use Rattle.whole_laws.proofs.Found.{last-has, found-has}
+use Rattle.whole_laws.proofs.Tests.{both_pass}
 use Rattle.ledger_laws.proofs.GrowthFacts.{radii_small}
 use Rattle.ledger_laws.proofs.MonthFacts.{admissible_obeys}
 use Rattle.ledger_laws.proofs.PlanBounds.{pattern_bound}
 use Rattle.moment_laws.proofs.ReserveLedger.{reserves_stay_within_scale}
 use Rattle.thiele_backward.specs.Results.{IsValueAtIssue, AreConstantMonths}
 use Rattle.premium_solver.specs.Quotients.{most_divisor}
+use Rattle.frac_base.proofs.WholeRing.{mul_one}
 
 -- ---- sizes
 
@@ -50,8 +52,8 @@ ends_small lo hi g width x scale narrow small above below order =
     let high = cross_of_over_le (neg_ℤ (pos (2 ^ g))) hi 1 (2 ^ 64) (omega arith) (omega arith) least in
     let multiple = pos-*ℤ-pos (2 ^ g) (2 ^ 64) in
     let opposite_multiple = neg-product (pos (2 ^ g)) (2 ^ 64) in (
-      omega (arith, ints, times_one lo, times_one hi),
-      omega (arith, ints, times_one lo, times_one hi),
+      omega (arith, ints, mul_one lo, mul_one hi),
+      omega (arith, ints, mul_one lo, mul_one hi),
     )
 
 -- the interval of the pattern's value
@@ -118,11 +120,6 @@ all_of_list : {A : Type 0} (test : A → Bool) (n : ℕ) (f : ℕ → A) → ((i
     → list_all test (list_of n f) ≡ true
 all_of_list test zero f h = refl
 all_of_list test (suc n) f h = rw (h 0) (all_of_list test n (λ i. f (suc i)) (λ i. h (suc i)))
-
-both_pass : (a b : Bool) → (a && b) ≡ true → (a ≡ true) × (b ≡ true)
-both_pass true true h = (refl, refl)
-both_pass true false h = (refl, h)
-both_pass false b h = (h, absurd (cc))
 
 -- the coefficients of the curves, which come first
 abbrev curves_in : Product → ℕ → List (List ℤ)

@@ -7,7 +7,7 @@ use Rattle.frac_laws.specs.Fraction.{Fraction, over, whole, size, opposite, ◌+
 use Rattle.frac_laws.specs.Sums.{sum_to}
 use Rattle.frac_laws.specs.Convolution.{convolution}
 use Rattle.frac_laws.specs.Lists.{Vector, Matrix, SameNumbers, number_at, vector_at, matrix_at, add_lists, scale_list}
-use Rattle.frac_laws.specs.Lists.{image, add_matrices, scale_matrix, identity, shift_rows}
+use Rattle.frac_laws.specs.Lists.{image, scale_matrix, identity, shift_rows}
 use Rattle.frac_laws.specs.Norms.{Sum, norm_of_vector, norm_of_matrix}
 use Rattle.frac_laws.proofs.FractionTerms.{ring, terms}
 use Rattle.frac_laws.proofs.Linear.{linear, equal, claims, natural, ◌⊞◌, ◌⊠◌}
@@ -18,7 +18,7 @@ use Rattle.frac_laws.proofs.Sizes.{size_of_natural, size_of_opposite, size_natur
 use Rattle.frac_laws.proofs.Sums.{sum_to_ext, sum_to_mono, sum_to_add, sum_to_scale, sum_to_scale_right, sum_to_first}
 use Rattle.frac_laws.proofs.Convolutions.{sum_to_past}
 use Rattle.frac_laws.proofs.Signs.{mul_natural}
-use Rattle.frac_laws.proofs.Lengths.{image_fits}
+use Rattle.frac_laws.proofs.Lengths.{image_fits, length-scale_matrix, add_matrices_fits}
 use Rattle.frac_laws.proofs.Vectors.{number_at-add_lists, number_at-scale_list, number_at-image, dot-add_right}
 use Rattle.frac_laws.proofs.Vectors.{dot-same}
 use Rattle.frac_laws.proofs.Norms.{norm-same, norm-add_lists, norm-scale_list, norm-image, norm_natural, size_zero}
@@ -31,18 +31,6 @@ use Rattle.cell_laws.proofs.Recurrences.{coefficients_recur, taylor_value_sums, 
 use Rattle.cell_laws.proofs.TameSums.{matrix_norm_past, matrix_norms_natural}
 use Rattle.probability_laws.specs.ProbabilityLaws.{HasSmallForward, SmallForwardCellsGrowLittle}
 use Rattle.probability_laws.proofs.LateCoefficients.{first_most, from_two, late_convolutions, six_total}
-
--- matrices keep their number of rows
-length-add_matrices : (d : ℕ) (a b : Matrix) → length a ≤ d → length b ≤ d → length (add_matrices a b) ≤ d
-length-add_matrices d [] b h k = k
-length-add_matrices d (row ∷ a) [] h k = h
-length-add_matrices zero (row ∷ a) (other ∷ b) h k = absurd (omega (arith, h))
-length-add_matrices (suc d) (row ∷ a) (other ∷ b) h k =
-    omega (arith, length-add_matrices d a b (omega (arith, h)) (omega (arith, k)))
-
-length-scale_matrix : (c : Fraction) (a : Matrix) → length (scale_matrix c a) ≡ length a
-length-scale_matrix c [] = refl
-length-scale_matrix c (row ∷ a) = ap (λ n. suc n) (length-scale_matrix c a)
 
 length-shift_rows : (a : Matrix) → length (shift_rows a) ≡ length a
 length-shift_rows [] = refl
@@ -195,7 +183,7 @@ module _ (s : System) (small : HasSmallForward s) (keeps : KeepsDimension s) (si
 
   map_fits : (n : ℕ) → length (one_factor_map s.dimension s.matrices n) ≤ s.dimension
   map_fits zero = omega (arith, length-identity s.dimension)
-  map_fits (suc n) = length-add_matrices s.dimension (one_factor_map s.dimension s.matrices n)
+  map_fits (suc n) = add_matrices_fits s.dimension (one_factor_map s.dimension s.matrices n)
       (scale_matrix (over (pos 1) (suc n)) (at n)) (map_fits n)
       (rw (length-scale_matrix (over (pos 1) (suc n)) (at n)) (keeps.rows n))
 

@@ -21,6 +21,7 @@ use Rattle.frac_laws.proofs.Quotients.{over_le_of_cross}
 use Rattle.std.proofs.Math.IntN.{pos-*ℤ-pos}
 use Rattle.frac_laws.proofs.Vectors.{number_at-add_lists, number_at-scale_list}
 use Rattle.frac_laws.proofs.Polynomials.{length-shifted, length-stretched}
+use Rattle.frac_laws.proofs.Lengths.{length-all_over}
 use Rattle.model_specs.specs.MonthNumbers.{bernstein_numerator}
 use Rattle.model_specs.specs.Cells.{Grid, Direction, Forward, whole_months, cells_of_32, cell_polynomial, per_cell}
 use Rattle.model_laws.proofs.MonthCoefficients.{curve_numerators_stand, payment_numerators_stand}
@@ -92,10 +93,6 @@ pub size-of_cell : (x y : Fraction) → size x ≤ℚ y → size (of_cell x) ≤
 size-of_cell x y h =
     le_trans (le_of_equal (size_mul (over (pos 1) 384) x ∙ ap (λ z. z *ℚ size x) (size_of_natural (natural 1 384))))
     (linear (size x ∷ y ∷ []) (h ⊠ natural 1 384) (hlevel claims) refl)
-
-length-all_over : (d : ℕ) (c : List ℤ) → length (all_over d c) ≡ length c
-length-all_over d [] = refl
-length-all_over d (x ∷ c) = ap (λ n. suc n) (length-all_over d c)
 
 length-cell : (direction : Direction) (p : List Fraction) (k cell : ℕ)
     → length (cell_polynomial (cells_of_32 direction) p k cell) ≡ length p

@@ -20,8 +20,9 @@ use Rattle.frac_laws.proofs.Order.{le_trans, le_of_equal}
 use Rattle.frac_laws.proofs.Norms.{size_zero}
 use Rattle.frac_laws.proofs.Quotients.{over_is, over_add, over_mul, over_le_of_cross, whole_add, whole_mul}
 use Rattle.frac_laws.proofs.LedgerFacts.{rounded_up_le}
+use Rattle.frac_laws.proofs.QuotientFacts.{over-zero}
 use Rattle.cell_laws.specs.Tame.{growth_of}
-use Rattle.whole_laws.specs.Whole.{list_of, places, whole_sum, greatest_whole, least_whole, greatest_natural}
+use Rattle.whole_laws.specs.Whole.{list_of, places, whole_sum, least_whole, greatest_natural}
 use Rattle.whole_laws.specs.Whole.{natural_part}
 use Rattle.model_specs.specs.Curve.{Piece, piece_at, zero_piece}
 use Rattle.model_specs.specs.Product.{Product, transition_at, no_transition}
@@ -33,13 +34,15 @@ use Rattle.model_specs.specs.RecordRules.{IsWellFormed, IsCurve}
 use Rattle.model_specs.specs.Cells.{Direction, CellCurves, cells_of_32, cell_curves, curve_cell, transition_between}
 use Rattle.model_specs.specs.Systems.{intensity_at}
 use Rattle.ledger_laws.specs.MonthLaws.{ObeysMonthRules, HasSmallNumbers, exit_rates}
-use Rattle.whole_laws.proofs.Extremes.{le_from_test, each_passes, greatest_natural_least, greatest_whole_least}
-use Rattle.whole_laws.proofs.Extremes.{place_of_list, length-list_of, All-list_of}
+use Rattle.whole_laws.proofs.Extremes.{greatest_natural_least}
+use Rattle.whole_laws.proofs.Extremes.{within_greatest}
 use Rattle.whole_laws.proofs.Found.{last-has}
+use Rattle.whole_laws.proofs.Tests.{le_from_test}
+use Rattle.whole_laws.proofs.ListsByPlace.{length-list_of, at-list_of, All-list_of}
+use Rattle.whole_laws.proofs.Members.{each_passes, at-map}
 use Rattle.ledger_laws.proofs.MonthFacts.{month_numbers, exits_below}
 use Rattle.cell_bounds.specs.CellBounds.{rate_bound, mean_at, of_cell, HasSmallCurves, HasSmallMonth}
 use Rattle.cell_bounds.specs.CellBounds.{CountsGrowth}
-use Rattle.cell_bounds.proofs.TameSystems.{at-map}
 use Rattle.product_cells.proofs.CurveCells.{over_mono, rate_small, rate_mean, interest_small, interest_mean}
 use Rattle.product_cells.proofs.FoundTransitions.{found_natural, found_has, found_total}
 use Rattle.product_cells.specs.MonthFractions.{found_value, rho_of, iota_of, nu_of, phi_of, rates_of}
@@ -47,11 +50,7 @@ use Rattle.product_cells.specs.MonthFractions.{found_value, rho_of, iota_of, nu_
 -- members of a list by places
 pub in_list : {A : Type 0} (P : A → Type 0) (n : ℕ) (f : ℕ → A) → All P (list_of n f) → (i : ℕ) → i < n → P (f i)
 in_list P n f all i b =
-    rw (place_of_list n f i (f 0) b) at (all i (f 0) (rw (length-list_of n f) b))
-
-pub within_greatest : (n : ℕ) (f : ℕ → ℤ) (i : ℕ) → i < n → f i ≤ℤ greatest_whole (list_of n f)
-within_greatest n f i b = rw (place_of_list n f i (pos 0) b) at
-    (greatest_whole_least (list_of n f) i (pos 0) (rw (length-list_of n f) b))
+    rw (at-list_of n f i (f 0) b) at (all i (f 0) (rw (length-list_of n f) b))
 
 pub least_within : (xs : List ℤ) (k : ℕ) (d : ℤ) → k < length xs → least_whole xs ≤ℤ slice_index_or xs k d
 least_within [] k d b = absurd (omega arith)
@@ -61,13 +60,13 @@ least_within (x ∷ y ∷ xs) zero d b = omega (arith, ints, clamps)
 least_within (x ∷ y ∷ xs) (suc k) d b = omega (arith, ints, clamps, least_within (y ∷ xs) k d (omega arith))
 
 pub above_least : (n : ℕ) (f : ℕ → ℤ) (i : ℕ) → i < n → least_whole (list_of n f) ≤ℤ f i
-above_least n f i b = rw (place_of_list n f i (pos 0) b) at
+above_least n f i b = rw (at-list_of n f i (pos 0) b) at
     (least_within (list_of n f) i (pos 0) (rw (length-list_of n f) b))
 
 pub within_sizes : (n : ℕ) (f : ℕ → ℤ) (i : ℕ) → i < n
     → unsigned_abs (f i) ≤ greatest_natural (map unsigned_abs (list_of n f))
 within_sizes n f i b =
-    rw (at-map unsigned_abs (list_of n f) i (pos 0), place_of_list n f i (pos 0) b) at
+    rw (at-map unsigned_abs (list_of n f) i (pos 0), at-list_of n f i (pos 0) b) at
     (greatest_natural_least (map unsigned_abs (list_of n f)) i 0 (mapped n f i b))
   where
     mapped : (n : ℕ) (f : ℕ → ℤ) (i : ℕ) → i < n → i < length (map unsigned_abs (list_of n f))
@@ -88,13 +87,10 @@ below_zero (pos zero) z h = omega (arith, ints, h)
 below_zero (pos (suc n)) z h = omega (arith, ints, h)
 below_zero (negsuc n) z h = omega (arith, ints, h)
 
-pub over_none : (d : ℕ) → over (pos 0) d ≡ whole (pos 0)
-over_none d = over_is (pos 0) d ∙ ring (over (pos 1) d ∷ []) (hlevel terms) refl
-
 -- rates over a unit add up to their sum
 rates_sum : (es : List ℕ) (r : ℕ → ℤ) (u : ℕ) → All (λ e. pos 0 ≤ℤ r e) es
     → sum_of_list (map (λ e. over (pos (natural_part (r e))) u) es) ≡ over (whole_sum (map r es)) u
-rates_sum [] r u all = sym (over_none u)
+rates_sum [] r u all = sym (over-zero u)
 rates_sum (e ∷ es) r u all =
     ap₂ ◌+ℚ◌ (ap (λ z. over z u) (natural_part-is (r e) (All-head (λ e. pos 0 ≤ℤ r e) e es all)))
     (rates_sum es r u (All-tail (λ e. pos 0 ≤ℤ r e) e es all))

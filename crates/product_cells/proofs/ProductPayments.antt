@@ -19,6 +19,7 @@ use Rattle.frac_laws.proofs.Norms.{size_zero}
 use Rattle.frac_laws.proofs.Quotients.{over_add, over_mul, over_scale, whole_add, whole_mul, whole_le, inverse}
 use Rattle.frac_laws.proofs.Sums.{sum_to_ext}
 use Rattle.frac_laws.proofs.LedgerFacts.{rounded_up_le}
+use Rattle.frac_laws.proofs.QuotientFacts.{over-zero}
 use Rattle.whole_laws.specs.Whole.{list_of, places, greatest_whole, least_whole, greatest_natural, natural_part}
 use Rattle.model_specs.specs.Product.{Product, Step, transition_at}
 use Rattle.model_specs.specs.Payments.{Plan, step_at, sojourn_at, sum_at, constant_step}
@@ -29,8 +30,9 @@ use Rattle.model_specs.specs.RecordRules.{IsWellFormed}
 use Rattle.model_specs.specs.Cells.{Direction, Forward, cells_of_32, amount_cell, transition_between}
 use Rattle.ledger_laws.specs.MonthLaws.{ObeysMonthRules}
 use Rattle.whole_laws.proofs.Extremes.{greatest_natural_least, greatest_whole_most, least_whole_least}
-use Rattle.whole_laws.proofs.Extremes.{place_of_list, length-list_of, All-list_of}
+use Rattle.whole_laws.proofs.Extremes.{within_greatest}
 use Rattle.whole_laws.proofs.Found.{last-has, place-has, found-has}
+use Rattle.whole_laws.proofs.ListsByPlace.{length-list_of, at-list_of, All-list_of}
 use Rattle.ledger_laws.proofs.Loads.{load_zero}
 use Rattle.ledger_laws.proofs.BoundFacts.{scale_bounds_parts, scale_bounds_ledger, cells_add, never_falls_by_months}
 use Rattle.ledger_laws.proofs.Rounding.{rises_far}
@@ -45,8 +47,7 @@ use Rattle.product_cells.proofs.FoundTransitions.{found_natural, found_has, foun
 use Rattle.product_cells.specs.MonthFractions.{found_value, rate_of, rates_of, rate_loads, sum_loads, size_of_step}
 use Rattle.product_cells.specs.MonthFractions.{spread_of_step, sum_sizes, sum_spreads, most_paid_of}
 use Rattle.model_laws.proofs.PlanSteps.{HasFour, HasFourEach}
-use Rattle.product_cells.proofs.ProductCurves.{within_greatest, above_least, within_sizes, within_natural_part}
-use Rattle.product_cells.proofs.ProductCurves.{over_none}
+use Rattle.product_cells.proofs.ProductCurves.{above_least, within_sizes, within_natural_part}
 use Rattle.product_cells.proofs.ProductCurves.{over_product, some_unit, cell_here}
 
 -- a payment of four coefficients in a cell, by its load
@@ -135,7 +136,7 @@ over_plus a b d = over_add (pos a) (pos b) d
 
 naturals_sum : (es : List ℕ) (f : ℕ → ℕ) (u : ℕ)
     → sum_of_list (map (λ e. over (pos (f e)) u) es) ≡ over (pos (sum (map f es))) u
-naturals_sum [] f u = sym (over_none u)
+naturals_sum [] f u = sym (over-zero u)
 naturals_sum (e ∷ es) f u =
     ap (λ z. over (pos (f e)) u +ℚ z) (naturals_sum es f u)
     ∙ sym (over_plus (f e) (sum (map f es)) u)
@@ -207,7 +208,7 @@ module _ (product : Product) (plan : Plan) (month : ℕ) (formed : IsWellFormed 
       let loads = load (sojourn_at plan i month) month in
       let paid = sum (map paid_of (exits product i)) in
       let within : state_pay product plan month i ≤ most_paid =
-      rw (place_of_list (length product.states) (state_pay product plan month) i 0 b) at
+      rw (at-list_of (length product.states) (state_pay product plan month) i 0 b) at
       (greatest_natural_least (list_of (length product.states) (state_pay product plan month)) i 0
       (rw (length-list_of (length product.states) (state_pay product plan month)) b)) in
       let total : whole (pos loads) +ℚ over (pos paid) (month_unit product) ≤ℚ x =
@@ -232,7 +233,7 @@ module _ (product : Product) (plan : Plan) (month : ℕ) (formed : IsWellFormed 
   steps_most : (steps : List Step) → load (step_at steps month) month ≤ sum_size product.months steps
   steps_most [] = omega (arith, load_zero 0 month)
   steps_most (step ∷ steps) =
-      rw (place_of_list product.months (λ m. load (step_at (step ∷ steps) m) m) month 0 below) at
+      rw (at-list_of product.months (λ m. load (step_at (step ∷ steps) m) m) month 0 below) at
       (greatest_natural_least (list_of product.months (λ m. load (step_at (step ∷ steps) m) m)) month 0
       (rw (length-list_of product.months (λ m. load (step_at (step ∷ steps) m) m)) below))
 

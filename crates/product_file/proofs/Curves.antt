@@ -1,26 +1,25 @@
 -- Rules 8 and 9: good curves.
-use Rattle.std.proofs.Common.{◌≡◌, ℕ, zero, suc, ◌*◌, ◌^◌, ◌<◌, ◌≤◌, List, [], length, map, get_or}
+use Rattle.std.proofs.Common.{◌≡◌, ℕ, zero, suc, ◌<◌, ◌≤◌, List, [], length, map, get_or}
 use Rattle.std.proofs.Common.{arith, refl, ap, sym, subst, ◌∙◌}
 use Rattle.std.specs.Prelude.{true, false, ℤ, pos, int_le, int_lt, codes, All, slice_index}
-use Rattle.std.specs.Prelude.{None, nat_le, unsigned_abs}
-use Rattle.std.proofs.lemmas.Bool.{leb-true}
+use Rattle.std.specs.Prelude.{None}
 use Rattle.std.proofs.lemmas.List.{get_or-map, length-map}
 use Rattle.std.proofs.lemmas.List.Elements.{All-map}
 use Rattle.std.proofs.lemmas.Simd.{map-map}
 use Rattle.toml.specs.Data.{Data, Members, boolean}
 use Rattle.whole_laws.specs.Whole.{natural_part}
 use Rattle.model_specs.specs.MonthNumbers.{coefficient_at}
-use Rattle.model_specs.specs.RecordRules.{StartsRise, IsCurve, IsBounded, IsBoundedCurve, HasGoodCurves}
+use Rattle.model_specs.specs.RecordRules.{StartsRise, IsCurve, IsBoundedCurve, HasGoodCurves}
 use Rattle.whole_laws.proofs.ListsByPlace.{length-list_of}
 use Rattle.product_file.specs.Checks.{first_failed, first_failed_of_lists}
 use Rattle.product_file.specs.Members.{whole_of, item_at, items_of, members_of, wholes_of}
 use Rattle.product_file.specs.TransitionRule.{transition_items}
-use Rattle.product_file.specs.CurveRules.{start_of, is_in_order, rule_8_of, rule_8, rule_9_of, rule_9, is_bounded}
+use Rattle.product_file.specs.CurveRules.{start_of, is_in_order, rule_8_of, rule_8, rule_9_of, rule_9}
 use Rattle.product_file.specs.CurveRules.{piece_of, months_of_term, curve_items, is_piece, most_coefficients}
 use Rattle.product_file.specs.Reads.{product_of, transition_of}
 use Rattle.product_file.proofs.Passed.{left-of, right-of, each-holds, each-of-some, some-there, each-list-holds}
-use Rattle.product_file.proofs.Passed.{each-place-passes}
 use Rattle.product_file.proofs.Wholes.{natural_below, natural_above, natural_zero}
+use Rattle.model_laws.proofs.BoundedCoefficients.{bounded_from_test}
 
 -- starts in order at all places: each is not negative
 starts-natural : (months : ℤ) (items : List Data) → ((i : ℕ) → i < length items → is_in_order months items i ≡ true)
@@ -89,16 +88,10 @@ curve_is_good tree items h = record {
       (each-of-some (length items) _ h i below));
 }
 
--- coefficients whose test holds are bounded
-pub coefficients_bounded : (c : List ℤ) (s : ℕ) → is_bounded c s ≡ true → IsBounded c s
-coefficients_bounded c s h i below =
-    leb-true _ _ (each-place-passes (length c) (λ j. nat_le (unsigned_abs (coefficient_at c j) * s ^ j) (10 ^ 22))
-    (λ j. j) h i below)
-
 pub curve_is_bounded : (tree : Members) (items : List Data) → first_failed (rule_9_of tree items) ≡ None
     → IsBoundedCurve (months_of_term tree) (map piece_of items)
 curve_is_bounded tree items h k below =
-    coefficients_bounded _ _ (each-holds (length (map piece_of items)) _ h k below)
+    bounded_from_test _ _ (each-holds (length (map piece_of items)) _ h k below)
 
 pub good_curves : (tree : Members) → first_failed_of_lists (rule_8 tree) ≡ None
     → first_failed_of_lists (rule_9 tree) ≡ None → HasGoodCurves (product_of tree)

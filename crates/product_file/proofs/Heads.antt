@@ -16,15 +16,16 @@ use Rattle.product_file.specs.Members.{whole_of, items_of, item_at, is_among}
 use Rattle.product_file.specs.HeadRules.{is_good_name, state_names, is_good_state, most_states_of}
 use Rattle.product_file.specs.HeadRules.{is_format_1, rule_3, rule_4, rule_5, rule_6, state_of}
 use Rattle.product_file.specs.Reads.{product_of}
-use Rattle.product_file.proofs.Passed.{left-of, right-of, denied, nth-holds, listed-holds, each-passes, none-passes}
+use Rattle.product_file.proofs.Passed.{left-of, right-of, denied, nth-holds, listed-holds, none-passes}
 use Rattle.product_file.proofs.Wholes.{natural_most, natural_some, some_natural}
+use Rattle.whole_laws.proofs.Members.{each_passes}
 
 -- a name that passes the test is good
 pub name_is_good : (most : ℕ) (name : List ℕ) → is_good_name most name ≡ true → IsGoodName most name
 name_is_good most name h = record {
   not_empty = ltb-true 0 (length name) (left-of _ _ (left-of _ _ h));
   short = leb-true (length name) most (right-of _ _ (left-of _ _ h));
-  bytes = each-passes is_name_byte name (right-of _ _ h);
+  bytes = each_passes is_name_byte name (right-of _ _ h);
 }
 
 -- at most twelve states in either format

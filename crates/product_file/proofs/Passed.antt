@@ -3,9 +3,10 @@ use Rattle.std.proofs.Common.{◌≡◌, ℕ, zero, suc, ◌+◌, ◌<◌, ◌�
 use Rattle.std.proofs.Common.{arith, refl, sym}
 use Rattle.std.proofs.lemmas.Bool.{true≢false, false≢true}
 use Rattle.std.proofs.lemmas.Option.{none-some}
-use Rattle.std.specs.Prelude.{Bool, true, false, ◌&&◌, ◌||◌, not, Option, Some, None, option_map, All, slice_index_or}
+use Rattle.std.specs.Prelude.{Bool, true, false, ◌&&◌, ◌||◌, not, Option, Some, None, All, slice_index_or}
 use Rattle.std.specs.List.{list_all, list_any}
 use Rattle.whole_laws.specs.Whole.{list_of}
+use Rattle.whole_laws.proofs.Members.{none-of-map}
 use Rattle.model_specs.specs.ValuationRules.{first_given}
 use Rattle.product_file.specs.Checks.{first_failed, first_failed_from, place_in}
 use Rattle.product_file.specs.CurveRules.{not_empty}
@@ -24,11 +25,6 @@ right-of false b h = absurd (false≢true h)
 pub denied : (a : Bool) → not a ≡ true → a ≡ false
 denied true h = absurd (false≢true h)
 denied false h = refl
-
--- there is no value in an option of which a place was made
-none-of-map : {A B : Type 0} (f : A → B) (x : Option A) → option_map f x ≡ None → x ≡ None
-none-of-map f None h = refl
-none-of-map f (Some x) h = absurd (none-some _ (sym h))
 
 -- no value was first: none was there
 pub given-head : {A : Type 0} (x : Option A) (xs : List (Option A)) → first_given (x ∷ xs) ≡ None → x ≡ None
@@ -122,13 +118,6 @@ back-holds k [] ys h = let e : 0 + k ≡ k = omega arith in rw e h
 back-holds k (x ∷ xs) ys h =
     let e : suc (length xs) + k ≡ length xs + suc k = omega arith in
     rw e (back-holds (suc k) xs ys (lists-hold k (first_failed x) _ h))
-
--- each member of a list that passes as a whole passes
-pub each-passes : {A : Type 0} (test : A → Bool) (xs : List A) → list_all test xs ≡ true
-    → All (λ x. test x ≡ true) xs
-each-passes test [] h i d below = absurd (omega arith)
-each-passes test (x ∷ xs) h zero d below = left-of (test x) _ h
-each-passes test (x ∷ xs) h (suc i) d below = each-passes test xs (right-of (test x) _ h) i d (omega arith)
 
 pub each-place-passes : (n : ℕ) (test : ℕ → Bool) (f : ℕ → ℕ) → list_all test (list_of n f) ≡ true
     → (i : ℕ) → i < n → test (f i) ≡ true

@@ -13,22 +13,25 @@ use Rattle.model_specs.specs.Product.{Step}
 use Rattle.model_specs.specs.Payments.{constant_step}
 use Rattle.model_specs.specs.MonthNumbers.{bernstein_numerators, coefficient_at}
 use Rattle.model_specs.specs.RecordRules.{IsPayment, IsBoundedStep, IsBoundedPayment, HasGoodPayments, AreDistinct}
+use Rattle.model_specs.specs.RecordRules.{is_bounded}
 use Rattle.whole_laws.proofs.ListsByPlace.{length-list_of}
+use Rattle.whole_laws.proofs.Members.{each_passes}
 use Rattle.product_file.specs.Checks.{first_failed, first_failed_of_lists}
 use Rattle.product_file.specs.Members.{whole_of, item_at, items_of, members_of, is_absent, wholes_of, listed}
 use Rattle.product_file.specs.HeadRules.{is_format_1, state_names}
 use Rattle.product_file.specs.TransitionRule.{transition_items, state_index, state_at}
-use Rattle.product_file.specs.CurveRules.{is_bounded, months_of_term}
+use Rattle.product_file.specs.CurveRules.{months_of_term}
 use Rattle.product_file.specs.PaymentRules.{steps_rule_10, sum_rule_10, sojourn_rule_10, rule_10, is_step, step_of}
 use Rattle.product_file.specs.PaymentRules.{is_good_sojourn, is_sojourn, sojourn_items, sum_items, steps_items}
 use Rattle.product_file.specs.PaymentRules.{amount_of, are_small, is_bounded_step, steps_rule_11, rule_11}
 use Rattle.product_file.specs.Reads.{product_of, transition_of, sojourn_of}
 use Rattle.product_file.proofs.Passed.{left-of, right-of, denied, each-holds, each-of-some, some-there, each-list-holds}
-use Rattle.product_file.proofs.Passed.{each-place-holds, front-holds, back-holds, each-passes, each-place-passes}
+use Rattle.product_file.proofs.Passed.{each-place-holds, front-holds, back-holds, each-place-passes}
 use Rattle.product_file.proofs.Wholes.{distinct_values}
 use Rattle.product_file.proofs.Heads.{index_inside}
 use Rattle.product_file.proofs.Transitions.{all_items}
-use Rattle.product_file.proofs.Curves.{starts_rise, coefficients_bounded}
+use Rattle.product_file.proofs.Curves.{starts_rise}
+use Rattle.model_laws.proofs.BoundedCoefficients.{bounded_from_test}
 
 -- a step of either format has four coefficients
 four : (tree : Members) (d : Data) → length (amount_of tree d) ≡ 4
@@ -85,9 +88,9 @@ sojourn_is_good tree s h = by-answer (is_good_sojourn tree s) h
 -- a step whose test holds is bounded
 step_is_bounded : (step : Step) (s : ℕ) → is_bounded_step step s ≡ true → IsBoundedStep step.c s
 step_is_bounded step s h = record {
-  coefficients = coefficients_bounded step.c s (left-of _ _ h);
+  coefficients = bounded_from_test step.c s (left-of _ _ h);
   amounts = λ k below i d inside. leb-true _ _
-      (each-passes (λ b. nat_le (unsigned_abs b) (most_amount * bernstein_unit))
+      (each_passes (λ b. nat_le (unsigned_abs b) (most_amount * bernstein_unit))
       (bernstein_numerators step.c k)
       (each-place-passes s (λ m. are_small (bernstein_numerators step.c m)) (λ m. m)
       (right-of (is_bounded step.c s) _ h) k below) i d inside);

@@ -1,7 +1,7 @@
 -- Rule 7: good transitions.
 use Rattle.std.proofs.Common.{◌≡◌, ◌≢◌, ℕ, ◌<◌, List, length, take, refl, sym, subst, ◌∙◌}
-use Rattle.std.specs.Prelude.{Bool, true, false, ◌&&◌, not, None, codes, All, ◌==◌}
-use Rattle.std.proofs.lemmas.Bool.{true≢false, eq-eqb}
+use Rattle.std.specs.Prelude.{Bool, true, false, ◌&&◌, None, codes, All, ◌==◌}
+use Rattle.std.proofs.lemmas.Bool.{eq-eqb}
 use Rattle.std.proofs.lemmas.List.{get_or_default}
 use Rattle.std.proofs.lemmas.List.Elements.{All-map}
 use Rattle.std.proofs.lemmas.Simd.{map-map}
@@ -16,6 +16,7 @@ use Rattle.product_file.specs.Reads.{product_of, transition_of}
 use Rattle.product_file.proofs.Passed.{left-of, right-of, denied, each-holds}
 use Rattle.product_file.proofs.Wholes.{distinct_values, any-map}
 use Rattle.product_file.proofs.Heads.{index_inside}
+use Rattle.whole_laws.proofs.Tests.{other_numbers}
 
 -- a pair has the same parts as itself
 pub same_pair : (x : ℕ × ℕ) → is_same_pair x x ≡ true
@@ -30,10 +31,6 @@ pub all_items : (P : Data → Type 0) (items : List Data) → ((i : ℕ) → i <
     → All P items
 all_items P items h i d below = subst P (get_or_default items i (boolean false) d below) (h i below)
 
--- numbers that are not the same by the test differ
-differ : (a b : ℕ) → not (a == b) ≡ true → a ≢ b
-differ a b h equal = true≢false (sym (eq-eqb a b equal) ∙ denied (a == b) h)
-
 pub good_transitions : (tree : Members) → first_failed (rule_7 tree) ≡ None → HasGoodTransitions (product_of tree)
 good_transitions tree h = record {
   from = All-map (λ t. t.from < length (state_names tree)) (transition_of tree) items
@@ -44,7 +41,7 @@ good_transitions tree h = record {
       (λ i below. index_inside tree _ (right-of _ _ (left-of _ _ (left-of _ _ (good i below))))));
   different = All-map (λ t. t.from ≢ t.to) (transition_of tree) items
       (all_items (λ d. state_index tree (codes "from") d ≢ state_index tree (codes "to") d) items
-      (λ i below. differ _ _ (right-of _ _ (left-of _ _ (good i below)))));
+      (λ i below. other_numbers _ _ (right-of _ _ (left-of _ _ (good i below)))));
   distinct = subst (AreDistinct {A = ℕ × ℕ} (0, 0))
       (sym (map-map (λ t. (t.from, t.to)) (transition_of tree) items))
       (distinct_values {A = Data} {B = ℕ × ℕ} (0, 0) (pair_of tree) is_same_pair items (boolean false) same_pair

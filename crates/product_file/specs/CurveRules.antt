@@ -1,14 +1,12 @@
 -- Rules 8 and 9 of a product file: the pieces of its curves. Curve 0 is the force of interest, curve 1 + k the
 -- intensity of transition k.
-use Rattle.std.specs.Prelude.{ℕ, zero, suc, ◌*◌, ◌^◌, nat_le, ℤ, pos, int_le, int_lt, unsigned_abs, codes}
+use Rattle.std.specs.Prelude.{ℕ, zero, suc, ℤ, pos, int_le, int_lt, codes}
 use Rattle.std.specs.Prelude.{List, [], ◌∷◌, length, map, slice_index_or, Bool, false, ◌&&◌, if◌then◌else◌}
-use Rattle.std.specs.List.{list_all}
 use Rattle.toml.specs.Data.{Data, Members}
-use Rattle.named_numbers.specs.Numbers.{most_coefficient}
-use Rattle.whole_laws.specs.Whole.{list_of, places, natural_part}
+use Rattle.whole_laws.specs.Whole.{list_of, natural_part}
 use Rattle.model_specs.specs.Curve.{Piece, zero_piece}
 use Rattle.model_specs.specs.MonthNumbers.{coefficient_at}
-use Rattle.model_specs.specs.RecordRules.{months_of, piece_starts}
+use Rattle.model_specs.specs.RecordRules.{months_of, piece_starts, is_bounded}
 use Rattle.product_file.specs.Members.{whole_of, items_of, item_at, members_of, wholes_of}
 use Rattle.product_file.specs.Keys.{piece_keys, is_table_of}
 use Rattle.product_file.specs.HeadRules.{is_format_1}
@@ -63,11 +61,6 @@ rule_8 tree = map (rule_8_of tree) (curve_items tree)
 -- a piece of the product, with 0 for each coefficient that the file leaves out
 abbrev pub piece_of : Data → Piece
 piece_of d = record { from = natural_part (start_of d); c = coefficients_of 6 (codes "c") (members_of d) }
-
--- |c_i| s^i is not too large for each coefficient of a part that holds for s months
-abbrev pub is_bounded : List ℤ → ℕ → Bool
-is_bounded c s =
-    list_all (λ i. nat_le (unsigned_abs (coefficient_at c i) * s ^ i) most_coefficient) (places (length c))
 
 -- the term in months
 abbrev pub months_of_term : Members → ℕ

@@ -9,13 +9,13 @@ use Rattle.whole_laws.specs.Whole.{list_of, places, natural_part}
 use Rattle.model_specs.specs.Product.{Step}
 use Rattle.model_specs.specs.Payments.{constant_step}
 use Rattle.model_specs.specs.MonthNumbers.{bernstein_numerators}
-use Rattle.model_specs.specs.RecordRules.{months_of, step_starts}
+use Rattle.model_specs.specs.RecordRules.{months_of, step_starts, is_bounded}
 use Rattle.product_file.specs.Members.{is_absent, whole_of, items_of, item_at, members_of}
 use Rattle.product_file.specs.Keys.{constant_step_keys, piece_keys, sojourn_keys, is_table_of}
 use Rattle.product_file.specs.HeadRules.{is_format_1}
 use Rattle.product_file.specs.TransitionRule.{transition_items, state_at, state_index}
 use Rattle.product_file.specs.CurveRules.{start_of, is_in_order, not_empty}
-use Rattle.product_file.specs.CurveRules.{coefficients_of, is_bounded, months_of_term}
+use Rattle.product_file.specs.CurveRules.{coefficients_of, months_of_term}
 
 -- a step is a table of the keys of the file's format: a constant amount, or 1 to 4 coefficients
 abbrev pub is_step : Members → Data → Bool

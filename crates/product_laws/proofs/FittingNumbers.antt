@@ -1,10 +1,7 @@
 -- The numbers of the scaled systems can be stored.
-use Rattle.std.specs.Prelude.{◌≡◌, ◌≢◌, ℕ, zero, suc, pos, ◌^◌, ◌<◌, ◌==◌, ◌&&◌, Bool, true, false, cond}
-use Rattle.std.specs.Prelude.{Option, Some, None, find, All, List, [], ◌∷◌, length}
-use Rattle.std.proofs.Common.{refl, ap, sym, ◌∙◌, arith, inl, inr}
-use Rattle.std.proofs.lemmas.Bool.{false≢true}
-use Rattle.std.proofs.lemmas.Bool.Decides.{eqb_tells}
-use Rattle.std.proofs.lemmas.List.Elements.{All-head, All-tail}
+use Rattle.std.specs.Prelude.{◌≡◌, ◌≢◌, ℕ, zero, suc, pos, ◌^◌, ◌<◌, ◌==◌, ◌&&◌, true}
+use Rattle.std.specs.Prelude.{[], ◌∷◌, length}
+use Rattle.std.proofs.Common.{refl, ap, sym, ◌∙◌, arith}
 use Rattle.frac_laws.specs.Fraction.{Fraction, over, whole, size, opposite, is_not_negative, ◌+ℚ◌, ◌-ℚ◌, ◌*ℚ◌, ◌≤ℚ◌}
 use Rattle.frac_laws.specs.Sums.{sum_to}
 use Rattle.frac_laws.specs.Norms.{Sup, norm_of_vector}
@@ -24,11 +21,12 @@ use Rattle.model_specs.specs.RecordRules.{IsWellFormed}
 use Rattle.model_specs.specs.Cells.{CellCurves, Backward}
 use Rattle.model_specs.specs.Systems.{vector_of, where_same, first_payment_at, second_payment_at, sojourn_rate_at}
 use Rattle.model_specs.specs.Systems.{coupling_entry, thiele_system, second_moment_system}
-use Rattle.whole_laws.proofs.ListsByPlace.{at-list_of}
+use Rattle.whole_laws.proofs.ListsByPlace.{at-list_of, All-list_of}
 use Rattle.cell_laws.specs.Tame.{vector_norm_at}
 use Rattle.ledger_laws.specs.MonthLaws.{ObeysMonthRules}
 use Rattle.ledger_laws.proofs.MonthFacts.{admissible_obeys}
-use Rattle.whole_laws.proofs.Extremes.{All-list_of}
+use Rattle.whole_laws.proofs.Tests.{same_numbers, both_pass}
+use Rattle.whole_laws.proofs.Found.{found_by}
 use Rattle.cell_bounds.specs.CellBounds.{paid_bound, load_bound, twice_paid_bound, of_cell, HasSmallCurves}
 use Rattle.cell_bounds.specs.CellBounds.{HasSmallMonth, HasSmallPayments, HasSmallSums}
 use Rattle.product_cells.specs.MonthFractions.{month_bounds, plan_bounds}
@@ -56,37 +54,15 @@ paid_most m b = le_trans (term_le_sum_to 9 m (λ k c. paid_natural k) b) paid_to
 twice_paid_most : (m : ℕ) → m < 12 → twice_paid_bound m ≤ℚ over (pos 21) 16
 twice_paid_most m b = le_trans (term_le_sum_to 12 m (λ k c. twice_paid_natural k) b) twice_paid_total
 
-load_later : sum_to 8 (λ m. load_bound (suc m)) ≤ℚ whole (pos 1)
+pub load_later : sum_to 8 (λ m. load_bound (suc m)) ≤ℚ whole (pos 1)
 unfolding ◌+ℚ◌ ◌*ℚ◌ ◌-ℚ◌ opposite is_not_negative
 load_later = record { le = refl }
 
-load_most : (m : ℕ) → m < 9 → load_bound m ≤ℚ whole (pos 1)
+pub load_most : (m : ℕ) → m < 9 → load_bound m ≤ℚ whole (pos 1)
 load_most zero b = le_refl _
 load_most (suc m) b =
     le_trans (term_le_sum_to 8 m {f = λ k. load_bound (suc k)} (λ k c. load_natural (suc k)) (omega (arith, b)))
     load_later
-
--- what none has, and each member that passes, the one that is found has
-found_by : (P : Option ℕ → Type 0) (test : ℕ → Bool) (xs : List ℕ) → P None
-    → All (λ e. test e ≡ true → P (Some e)) xs → P (find test xs)
-found_by P test [] bare all = bare
-found_by P test (x ∷ xs) bare all =
-    choose (test x) refl (found_by P test xs bare (All-tail (λ e. test e ≡ true → P (Some e)) x xs all))
-  where
-    choose : (b : Bool) → test x ≡ b → P (find test xs) → P (cond b (Some x) (find test xs))
-    choose true h later = All-head (λ e. test e ≡ true → P (Some e)) x xs all h
-    choose false h later = later
-
-both_true : (a b : Bool) → (a && b) ≡ true → (a ≡ true) × (b ≡ true)
-both_true true true h = (refl, refl)
-both_true true false h = (refl, h)
-both_true false b h = absurd (false≢true h)
-
-same_numbers : (a b : ℕ) → (a == b) ≡ true → a ≡ b
-same_numbers a b h = elim (eqb_tells a b) [
-  | inl same ↦ same.1
-  | inr other ↦ absurd (false≢true (sym other.0 ∙ h))
-]
 
 -- no transition leads from a state to itself
 no_loop : (product : Product) (month i : ℕ) → IsWellFormed product → rates_of product month i i ≡ whole (pos 0)
@@ -97,8 +73,8 @@ no_loop product month i formed =
     (All-list_of (λ e. (((transition_at product e).from == i) && ((transition_at product e).to == i)) ≡ true
     → rate_of product month e ≡ whole (pos 0)) (length product.transitions) (λ e. e)
     (λ e b h. absurd (formed.transitions.different e no_transition b
-    (same_numbers (transition_at product e).from i (both_true _ _ h).0
-    ∙ sym (same_numbers (transition_at product e).to i (both_true _ _ h).1)))))
+    (same_numbers (transition_at product e).from i (both_pass _ _ h).0
+    ∙ sym (same_numbers (transition_at product e).to i (both_pass _ _ h).1)))))
 
 module _ (cell : CellCurves) (rates : ℕ → ℕ → Fraction) (rho iota nu : Fraction) (rate : ℕ → Fraction)
     (sum : ℕ → ℕ → Fraction) (x greatest : Fraction) (largest apart : ℕ → ℕ → Fraction)

@@ -4,13 +4,12 @@ use Rattle.std.proofs.Common.{ap, sym, ◌∙◌, arith}
 use Rattle.std.proofs.lemmas.List.{get_or_default}
 use Rattle.whole_laws.specs.Whole.{list_of}
 use Rattle.model_specs.specs.Product.{Step, transition_at, no_transition}
-use Rattle.whole_laws.proofs.ListsByPlace.{at-list_of, length-list_of}
+use Rattle.whole_laws.proofs.ListsByPlace.{at-list_of, length-list_of, map-list_of, list_of_places}
 use Rattle.curve_pieces.specs.PiecewiseCurves.{PiecewiseCurve}
 use Rattle.state_graph.specs.StateGraphs.{StateGraph}
 use Rattle.payment_plan.specs.Payments.{Payments}
 use Rattle.product_model.specs.Parts.{Parts, FitTogether, no_curve, product_of_parts, transition_of_parts}
 use Rattle.product_model.specs.Views.{graph_of, curve_of, payments_of}
-use Rattle.product_model.proofs.PlacedLists.{map-list_of, list_of_places}
 
 pub edges_of_parts : (parts : Parts)
     → map (λ t. (t.from, t.to)) (product_of_parts parts).transitions ≡ parts.graph.edges

@@ -7,8 +7,8 @@ use Rattle.model_specs.specs.RecordRules.{HasGoodPayments, HasGoodLumps, HasGood
 use Rattle.model_specs.specs.RecordRules.{IsCurve, IsBoundedCurve, IsPayment, IsBoundedPayment}
 use Rattle.product_model.specs.Parts.{Parts, FitTogether, product_of_parts, transition_of_parts, no_curve}
 use Rattle.product_model.specs.LawfulParts.{AreLawful}
-use Rattle.product_model.proofs.PlacedLists.{All-list_of}
 use Rattle.product_model.proofs.PartsAgree.{edges_of_parts}
+use Rattle.whole_laws.proofs.ListsByPlace.{All-list_of}
 
 has_good_names : (parts : Parts) → FitTogether parts → AreLawful parts → HasGoodNames (product_of_parts parts)
 has_good_names parts fit lawful = record {

@@ -3,8 +3,8 @@ use Rattle.std.proofs.Common.{◌≡◌, ℕ, suc, ◌+◌, ◌*◌, List, [], �
 use Rattle.std.specs.Int.{div_ceil}
 use Rattle.frac_laws.specs.Ledger.{grow}
 use Rattle.whole_laws.specs.Whole.{list_of}
+use Rattle.whole_laws.proofs.ListsByPlace.{list_of-next}
 use Rattle.model_specs.specs.Ledgers.{grow_cells, second_grow_cells}
-use Rattle.state_graph.proofs.ExitSteps.{list_of_more}
 
 pub one_cell_more : (kappa add start cells ledger next : ℕ) → ledger ≡ grow_cells kappa add start cells
     → next ≡ grow ledger kappa add → next ≡ grow_cells kappa add start (cells + 1)
@@ -24,7 +24,7 @@ second_cell_more kappa pay G w second cells ledger radius adds next sofar first 
 pub one_date_more : (f : ℕ → ℕ) (n x : ℕ) (sofar more : List ℕ) → sofar ≡ list_of n f → x ≡ f n
     → more ≡ sofar ++ x ∷ [] → more ≡ list_of (n + 1) f
 one_date_more f n x sofar more are here is =
-    is ∙ ap (λ xs. xs ++ x ∷ []) are ∙ ap (λ y. list_of n f ++ y ∷ []) here ∙ sym (list_of_more n f)
+    is ∙ ap (λ xs. xs ++ x ∷ []) are ∙ ap (λ y. list_of n f ++ y ∷ []) here ∙ sym (list_of-next n f)
 
 pub all_dates : (f : ℕ → ℕ) (months n x : ℕ) (sofar more : List ℕ) → n ≡ months → sofar ≡ list_of n f → x ≡ f n
     → more ≡ sofar ++ x ∷ [] → more ≡ list_of (suc months) f

@@ -10,6 +10,7 @@ use Rattle.model_specs.specs.Payments.{constant_step}
 use Rattle.model_specs.specs.MonthNumbers.{bernstein_numerator, coefficient_at}
 use Rattle.model_specs.specs.RecordRules.{IsBoundedStep, IsPayment, IsBoundedPayment}
 use Rattle.payment_plan.specs.Payments.{Payments, IsAllowed, HasGoodPayments}
+use Rattle.whole_laws.proofs.Members.{All-one, All-two}
 
 six_alike : (f : ℕ → ℤ) (z : ℤ) → ((j : ℕ) → j < 6 → f j ≡ z)
     → f 0 ∷ f 1 ∷ f 2 ∷ f 3 ∷ f 4 ∷ f 5 ∷ [] ≡ z ∷ z ∷ z ∷ z ∷ z ∷ z ∷ []
@@ -113,12 +114,6 @@ allowed states months sums sojourns some most some_month most_months payments = 
 abbrev pub steady_in : ℕ → ℕ → Sojourn
 steady_in a state = record { state = state; steps = steady a }
 
-alone : {A : Type 0} (P : A → Type 0) (x : A) → P x → All P (x ∷ [])
-alone P x h = All-cons P x [] h (All-nil P)
-
-pair : {A : Type 0} (P : A → Type 0) (x y : A) → P x → P y → All P (x ∷ y ∷ [])
-pair P x y h k = All-cons P x (y ∷ []) h (alone P y k)
-
 two_places : (i j : ℕ) → i < j → j < 2 → slice_index (0 ∷ 1 ∷ []) i ≢ slice_index (0 ∷ 1 ∷ []) j
 two_places zero zero lower inside = absurd (omega arith)
 two_places zero (suc zero) lower inside = λ same. absurd (omega arith)
@@ -131,11 +126,11 @@ pub flat_is_allowed : (months a : ℕ) → 1 ≤ months → months ≤ 1200 → 
 flat_is_allowed months a some most small =
     allowed 1 months [] (steady_in a 0 ∷ []) (omega arith) (omega arith) some most
     (record {
-      states = alone (λ (s : Sojourn). s.state < 1) (steady_in a 0) (omega arith);
+      states = All-one (λ (s : Sojourn). s.state < 1) (steady_in a 0) (omega arith);
       distinct = λ i j lower inside. absurd (omega arith);
-      sojourns = alone (λ s. IsPayment months s.steps) (steady_in a 0) (steady_is_payment months a some);
+      sojourns = All-one (λ s. IsPayment months s.steps) (steady_in a 0) (steady_is_payment months a some);
       sums = All-nil (λ steps. 1 ≤ length steps → IsPayment months steps);
-      bounded_sojourns = alone (λ s. IsBoundedPayment months s.steps) (steady_in a 0)
+      bounded_sojourns = All-one (λ s. IsBoundedPayment months s.steps) (steady_in a 0)
           (steady_is_bounded months a small);
       bounded_sums = All-nil (IsBoundedPayment months);
     })
@@ -147,15 +142,15 @@ exchange_is_allowed months a some most small =
     allowed 2 months (steady a ∷ steady a ∷ []) (steady_in a 0 ∷ steady_in a 1 ∷ []) (omega arith) (omega arith)
     some most
     (record {
-      states = pair (λ (s : Sojourn). s.state < 2) (steady_in a 0) (steady_in a 1) (omega arith) (omega arith);
+      states = All-two (λ (s : Sojourn). s.state < 2) (steady_in a 0) (steady_in a 1) (omega arith) (omega arith);
       distinct = two_places;
-      sojourns = pair (λ s. IsPayment months s.steps) (steady_in a 0) (steady_in a 1) (steady_is_payment months a some)
+      sojourns = All-two (λ s. IsPayment months s.steps) (steady_in a 0) (steady_in a 1) (steady_is_payment months a some)
           (steady_is_payment months a some);
-      sums = pair (λ steps. 1 ≤ length steps → IsPayment months steps) (steady a) (steady a)
+      sums = All-two (λ steps. 1 ≤ length steps → IsPayment months steps) (steady a) (steady a)
           (λ h. steady_is_payment months a some) (λ h. steady_is_payment months a some);
-      bounded_sojourns = pair (λ s. IsBoundedPayment months s.steps) (steady_in a 0) (steady_in a 1)
+      bounded_sojourns = All-two (λ s. IsBoundedPayment months s.steps) (steady_in a 0) (steady_in a 1)
           (steady_is_bounded months a small) (steady_is_bounded months a small);
-      bounded_sums = pair (IsBoundedPayment months) (steady a) (steady a) (steady_is_bounded months a small)
+      bounded_sums = All-two (IsBoundedPayment months) (steady a) (steady a) (steady_is_bounded months a small)
           (steady_is_bounded months a small);
     })
 

@@ -15,6 +15,7 @@ use Rattle.model_specs.specs.Product.{Product, Transition, transition_at, no_tra
 use Rattle.model_specs.specs.MonthNumbers.{exits}
 use Rattle.model_specs.specs.RecordRules.{IsWellFormed}
 use Rattle.whole_laws.proofs.ListsByPlace.{at-list_of, length-list_of}
+use Rattle.whole_laws.proofs.Tests.{same_numbers}
 use Rattle.ledger_laws.proofs.MonthFacts.{exits_below}
 
 -- places rise
@@ -49,13 +50,10 @@ apart product state a b lawful before below from_a from_b =
 abbrev goals : Product → ℕ → List ℕ
 goals product state = map (λ e. (transition_at product e).to) (exits product state)
 
-same_from : (a b : ℕ) → (a == b) ≡ true → a ≡ b
-same_from a b h = grind (arith, nat_tests)
-
 -- an exit leaves its state
 leaves : (product : Product) (state k : ℕ) → k < length (exits product state)
     → (transition_at product (get_or (exits product state) k 0)).from ≡ state
-leaves product state k within = same_from _ state
+leaves product state k within = same_numbers _ state
     (filter_passes (λ e. (transition_at product e).from == state) (places (length product.transitions)) k 0 within)
 
 goals_differ : (product : Product) (state : ℕ) → IsWellFormed product → IsDistinct eqb (goals product state)

@@ -1,10 +1,10 @@
 -- The first broken rule, from the rules of the months and the bound.
-use Rattle.std.specs.Prelude.{◌≡◌, ℕ, ◌<◌, ◌≤◌, ◌^◌, Bool, true, false, nat_le, if◌then◌else◌, Option, Some}
+use Rattle.std.specs.Prelude.{◌≡◌, ℕ, ◌<◌, ◌≤◌, ◌^◌, Bool, nat_le, if◌then◌else◌, Option, Some}
 use Rattle.std.specs.Prelude.{None, option_map}
 use Rattle.std.specs.Prelude.{find, not, [], ◌∷◌, refl}
-use Rattle.std.proofs.Common.{ap, sym, ◌∙◌, arith}
-use Rattle.std.proofs.lemmas.Bool.Decides.{nat_tests}
+use Rattle.std.proofs.Common.{ap, sym, ◌∙◌}
 use Rattle.whole_laws.specs.Whole.{places}
+use Rattle.whole_laws.proofs.Tests.{within_is, above_is_not}
 use Rattle.model_specs.specs.Product.{Product}
 use Rattle.model_specs.specs.Payments.{payment_plan}
 use Rattle.model_specs.specs.Ledgers.{bound1024}
@@ -70,18 +70,12 @@ only_last p none =
     given_at_last (broken_in_months p 15 (obeys_rule_15 p)) (broken_in_months p 16 (obeys_rule_16 p))
     (broken_in_months p 17 (obeys_rule_17 p)) (broken_at_last p) none
 
-is_above : (a b : ℕ) → b < a → nat_le a b ≡ false
-is_above a b h = grind (arith, nat_tests)
-
-is_within : (a b : ℕ) → a ≤ b → nat_le a b ≡ true
-is_within a b h = grind (arith, nat_tests)
-
 pub broken_at_the_end : (p : Product) (bound : ℕ) → None ≡ broken_by_month p → bound ≡ bound1024 p (payment_plan p)
     → 2 ^ 66 < bound → first_broken p ≡ Some (record { rule = 18; place = 0 })
 broken_at_the_end p bound none is above =
     only_last p none
     ∙ ap (λ b. first_given ((if nat_le b (2 ^ 66) then None else Some (record { rule = 18; place = 0 })) ∷ [])) (sym is)
-    ∙ ap (λ t. first_given ((if t then None else Some (record { rule = 18; place = 0 })) ∷ [])) (is_above bound (2
+    ∙ ap (λ t. first_given ((if t then None else Some (record { rule = 18; place = 0 })) ∷ [])) (above_is_not bound (2
     ^ 66) above)
 
 pub nothing_is_broken : (p : Product) (bound : ℕ) → None ≡ broken_by_month p → bound ≡ bound1024 p (payment_plan p)
@@ -89,5 +83,5 @@ pub nothing_is_broken : (p : Product) (bound : ℕ) → None ≡ broken_by_month
 nothing_is_broken p bound none is within =
     only_last p none
     ∙ ap (λ b. first_given ((if nat_le b (2 ^ 66) then None else Some (record { rule = 18; place = 0 })) ∷ [])) (sym is)
-    ∙ ap (λ t. first_given ((if t then None else Some (record { rule = 18; place = 0 })) ∷ [])) (is_within bound (2
+    ∙ ap (λ t. first_given ((if t then None else Some (record { rule = 18; place = 0 })) ∷ [])) (within_is bound (2
     ^ 66) within)

@@ -3,6 +3,7 @@ use Rattle.std.specs.Prelude.{◌≡◌, ℕ, zero, suc, ◌<◌, Bool, true, fa
 use Rattle.std.specs.Prelude.{[], ◌∷◌, refl, cond}
 use Rattle.std.proofs.Common.{ap, sym, ◌∙◌, arith}
 use Rattle.whole_laws.specs.Whole.{list_of}
+use Rattle.whole_laws.proofs.Found.{none_found}
 use Rattle.model_specs.specs.Product.{Product}
 use Rattle.model_specs.specs.ValuationRules.{broken_in_months, first_given, obeys_rule_15, obeys_rule_16}
 use Rattle.model_specs.specs.ValuationRules.{obeys_rule_17}
@@ -17,13 +18,6 @@ find_first P (suc n) (suc m) f inside here before =
     ap (λ b. cond b (Some (f 0)) (find P (list_of n (λ i. f (suc i))))) (before 0 (omega arith))
     ∙ find_first P n m (λ i. f (suc i)) (omega arith) here (λ k b. before (suc k) (omega arith))
 
-find_nothing : (P : ℕ → Bool) (n : ℕ) (f : ℕ → ℕ) → ((k : ℕ) → k < n → P (f k) ≡ false)
-    → find P (list_of n f) ≡ None
-find_nothing P zero f all = refl
-find_nothing P (suc n) f all =
-    ap (λ b. cond b (Some (f 0)) (find P (list_of n (λ i. f (suc i))))) (all 0 (omega arith))
-    ∙ find_nothing P n (λ i. f (suc i)) (λ k b. all (suc k) (omega arith))
-
 pub first_is_found : (obeys : ℕ → Bool) (months m : ℕ) (answer : Bool) → m < months → answer ≡ obeys m → answer ≡ false
     → ((k : ℕ) → k < m → obeys k ≡ true) → Some m ≡ first_breaking obeys months
 unfolding first_breaking
@@ -35,7 +29,7 @@ pub none_is_found : (obeys : ℕ → Bool) (months end : ℕ) → months ≡ end
     → None ≡ first_breaking obeys months
 unfolding first_breaking
 none_is_found obeys months end is all =
-    sym (find_nothing (λ k. not (obeys k)) months (λ k. k) (λ k b. ap not (all k (omega arith))))
+    sym (none_found (λ k. not (obeys k)) months (λ k. k) (λ k b. ap not (all k (omega arith))))
 
 not_first : (obeys : ℕ → Bool) (first : ℕ) (more : Option ℕ) (b : Bool) → obeys first ≡ b
     → cond (not (obeys first)) (Some first) more ≡ None → (obeys first ≡ true) × (more ≡ None)

@@ -6,7 +6,7 @@ use Rattle.std.specs.List.{list_all}
 use Rattle.std.specs.Int.{int_max, int_min}
 use Rattle.std.proofs.lemmas.Int.{ints}
 use Rattle.whole_laws.specs.Whole.{list_of, greatest_whole, least_whole, greatest_natural, natural_part}
-use Rattle.state_graph.proofs.ExitSteps.{list_of_more}
+use Rattle.whole_laws.proofs.ListsByPlace.{list_of-next}
 
 size_of_max : (a b : ℤ) (l : ℕ) → unsigned_abs a < l → unsigned_abs b < l → unsigned_abs (int_max a b) < l
 size_of_max a b l h k = grind (arith, ints)
@@ -34,7 +34,7 @@ greatest_natural-push (y ∷ xs) x = omega (arith, greatest_natural-push xs x)
 
 pub greatest_natural_more : (n : ℕ) (f : ℕ → ℕ)
     → greatest_natural (list_of (n + 1) f) ≡ max (greatest_natural (list_of n f)) (f n)
-greatest_natural_more n f = ap greatest_natural (list_of_more n f) ∙ greatest_natural-push (list_of n f) (f n)
+greatest_natural_more n f = ap greatest_natural (list_of-next n f) ∙ greatest_natural-push (list_of n f) (f n)
 
 int_min_assoc : (a b c : ℤ) → int_min a (int_min b c) ≡ int_min (int_min a b) c
 int_min_assoc a b c = grind (arith, ints)
@@ -45,7 +45,7 @@ least-push x (z ∷ xs) y = ap (int_min x) (least-push z xs y) ∙ int_min_assoc
 
 least_more : (n : ℕ) (f : ℕ → ℤ)
     → least_whole (list_of (suc n + 1) f) ≡ int_min (least_whole (list_of (suc n) f)) (f (suc n))
-least_more n f = ap least_whole (list_of_more (suc n) f) ∙ least-push (f 0) (list_of n (λ i. f (suc i))) (f (suc n))
+least_more n f = ap least_whole (list_of-next (suc n) f) ∙ least-push (f 0) (list_of n (λ i. f (suc i))) (f (suc n))
 
 int_max_assoc : (a b c : ℤ) → int_max a (int_max b c) ≡ int_max (int_max a b) c
 int_max_assoc a b c = grind (arith, ints)
@@ -58,7 +58,7 @@ greatest-push x (z ∷ xs) y = ap (int_max x) (greatest-push z xs y) ∙ int_max
 greatest_more : (n : ℕ) (f : ℕ → ℤ)
     → greatest_whole (list_of (suc n + 1) f) ≡ int_max (greatest_whole (list_of (suc n) f)) (f (suc n))
 greatest_more n f =
-    ap greatest_whole (list_of_more (suc n) f) ∙ greatest-push (f 0) (list_of n (λ i. f (suc i))) (f (suc n))
+    ap greatest_whole (list_of-next (suc n) f) ∙ greatest-push (f 0) (list_of n (λ i. f (suc i))) (f (suc n))
 
 -- the greatest, with one number more
 pub greatest_more_at : (n : ℕ) (f : ℕ → ℤ) (most x next : ℤ) → 1 ≤ n → most ≡ greatest_whole (list_of n f) → x ≡ f n

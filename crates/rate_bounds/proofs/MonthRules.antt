@@ -7,10 +7,10 @@ use Rattle.std.specs.Int.{int_max, int_min, w128}
 use Rattle.std.proofs.lemmas.Int.{ints}
 use Rattle.std.proofs.lemmas.List.Folds.{list_all-map}
 use Rattle.whole_laws.specs.Whole.{greatest_whole, least_whole}
+use Rattle.whole_laws.proofs.ListsByPlace.{map-list_of, list_of_places}
 use Rattle.model_specs.specs.Product.{Product, Transition, no_transition}
 use Rattle.model_specs.specs.MonthNumbers.{curve_numerators, month_unit, rho}
 use Rattle.model_specs.specs.ValuationRules.{obeys_rule_15, obeys_rule_16, obeys_rule_17}
-use Rattle.product_model.proofs.PlacedLists.{map-list_of, list_of_places}
 use Rattle.rate_bounds.specs.declared.curves.MonthCurves.{MonthCurves}
 use Rattle.rate_bounds.specs.MonthRates.{least_of, least_rate}
 use Rattle.rate_bounds.specs.declared.rules.MonthRule.{MonthRule}

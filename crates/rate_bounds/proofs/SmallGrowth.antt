@@ -6,6 +6,7 @@ use Rattle.std.specs.Int.{div_ceil, int_max, int_min}
 use Rattle.std.proofs.lemmas.Int.{ints}
 use Rattle.std.proofs.Math.Nat.{pow-suc, pow-zero}
 use Rattle.whole_laws.specs.Whole.{natural_part, greatest_natural, greatest_whole, least_whole}
+use Rattle.whole_laws.proofs.Numbers.{natural_part_is}
 use Rattle.model_specs.specs.Product.{Product}
 use Rattle.model_specs.specs.MonthNumbers.{curve_numerators, month_unit, rho, iota, nu}
 use Rattle.model_specs.specs.Growth.{kappa40}
@@ -22,16 +23,12 @@ square_is phi =
 square_most : (square more : ℕ) → div_ceil (9 * square) (2 ^ 44) + more ≤ 2 ^ 28 → square ≤ 2 ^ 72
 square_most square more h = omega arith
 
-natural_from_size : (z : ℤ) → pos 0 ≤ℤ z → unsigned_abs z ≡ natural_part z
-natural_from_size (pos n) h = refl
-natural_from_size (negsuc n) h = absurd (omega (arith, ints))
-
 -- phi as the program forms it
 pub phi_is : (curves : MonthCurves) (unit iota phi : ℕ) → GrowsLittle curves unit → iota ≡ iota_of curves
     → phi ≡ div_ceil (2 ^ 40 * (5 * unsigned_abs curves.rho + 6 * iota)) (768 * unit) → phi ≡ phi_of curves unit
 unfolding phi_of
 phi_is curves unit iota phi grows iota_is is =
-    is ∙ ap (λ r. div_ceil (2 ^ 40 * (5 * r + 6 * iota)) (768 * unit)) (natural_from_size curves.rho grows.rho_natural)
+    is ∙ ap (λ r. div_ceil (2 ^ 40 * (5 * r + 6 * iota)) (768 * unit)) (natural_part_is curves.rho grows.rho_natural)
     ∙ ap (λ i. div_ceil (2 ^ 40 * (5 * natural_part curves.rho + 6 * i)) (768 * unit)) iota_is
 
 -- the square of phi fits

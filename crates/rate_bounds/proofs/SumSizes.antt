@@ -3,20 +3,13 @@ use Rattle.std.proofs.Common.{◌≡◌, ℕ, zero, suc, ◌<◌, List, [], ◌�
 use Rattle.std.proofs.Common.{◌∙◌, length}
 use Rattle.std.specs.Prelude.{map, slice_index_or, if◌then◌else◌, ◌==◌}
 use Rattle.whole_laws.specs.Whole.{list_of, greatest_natural}
+use Rattle.whole_laws.proofs.ListsByPlace.{list_of-agree, map-list_of, list_of_places}
 use Rattle.model_specs.specs.Product.{Product, Transition, Step, transition_at, no_transition}
 use Rattle.model_specs.specs.Payments.{payment_plan, pattern_plan, continuous_pattern, dated_pattern, step_at}
 use Rattle.model_specs.specs.Growth.{load, sum_size, greatest_sum}
-use Rattle.product_model.proofs.PlacedLists.{map-list_of, list_of_places}
 use Rattle.ledger_laws.proofs.Loads.{load_zero}
 use Rattle.rate_bounds.specs.MonthPay.{sum_load}
 use Rattle.rate_bounds.specs.LedgerSteps.{sum_size_of, greatest_sum_size}
-
-list_of-same : {A : Type 0} (n : ℕ) (f g : ℕ → A) → ((i : ℕ) → i < n → f i ≡ g i) → list_of n f ≡ list_of n g
-list_of-same zero f g same = refl
-list_of-same (suc n) f g same =
-    ap (λ x. x ∷ list_of n (λ i. f (suc i))) (same 0 (omega arith))
-    ∙ ap (λ xs. g 0 ∷ xs)
-    (list_of-same n (λ i. f (suc i)) (λ i. g (suc i)) (λ i b. same (suc i) (omega arith)))
 
 all_zero : (n : ℕ) (f : ℕ → ℕ) → ((i : ℕ) → f i ≡ 0) → greatest_natural (list_of n f) ≡ 0
 all_zero zero f h = refl
@@ -47,7 +40,7 @@ unfolding greatest_sum_size
 sizes_are p =
     let size : Transition → ℕ = λ t. sum_size p.months t.sum in
     ap greatest_natural
-    (sym (list_of-same (length p.transitions) (λ e. size (transition_at p e)) (sum_size_of p (payment_plan p))
+    (sym (list_of-agree (length p.transitions) (λ e. size (transition_at p e)) (sum_size_of p (payment_plan p))
     (size_is p))
     ∙ sym (map-list_of size (length p.transitions) (transition_at p))
     ∙ ap (map size) (list_of_places p.transitions no_transition)

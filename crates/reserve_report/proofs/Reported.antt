@@ -23,7 +23,7 @@ use Rattle.model_specs.specs.Rows.{tolerance}
 use Rattle.model_specs.specs.Runs.{value_before_issue}
 use Rattle.model_specs.specs.RecordRules.{IsWellFormed}
 use Rattle.whole_laws.specs.Whole.{list_of, natural_part}
-use Rattle.product_model.proofs.PlacedLists.{map-list_of}
+use Rattle.whole_laws.proofs.ListsByPlace.{map-list_of}
 use Rattle.report_columns.specs.declared.note.Note.{Note}
 use Rattle.report_columns.specs.declared.note.What.{What}
 use Rattle.report_columns.specs.declared.note.What.TheVariants as what

@@ -7,7 +7,7 @@ use Rattle.fixed_interval.specs.declared.tables.MomentTable.{MomentTable}
 use Rattle.model_specs.specs.Product.{Product}
 use Rattle.model_specs.specs.RecordRules.{IsWellFormed}
 use Rattle.whole_laws.specs.Whole.{list_of}
-use Rattle.product_model.proofs.PlacedLists.{All-list_of}
+use Rattle.whole_laws.proofs.ListsByPlace.{All-list_of}
 use Rattle.report_columns.specs.declared.note.Note.{Note}
 use Rattle.report_columns.specs.declared.note.What.{What}
 use Rattle.report_columns.specs.Notes.{HasEnds}

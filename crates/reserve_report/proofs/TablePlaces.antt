@@ -5,7 +5,7 @@ use Rattle.std.proofs.Math.Nat.{div-add-mod, div-lt_iff_lt-mul, mul-le-mul}
 use Rattle.fixed_interval.specs.declared.tables.Table.{Table}
 use Rattle.fixed_interval.specs.declared.tables.MomentTable.{MomentTable}
 use Rattle.whole_laws.specs.Whole.{list_of}
-use Rattle.state_graph.proofs.ExitSteps.{list_of_more}
+use Rattle.whole_laws.proofs.ListsByPlace.{list_of-next}
 use Rattle.report_columns.specs.declared.note.Note.{Note}
 use Rattle.report_columns.specs.declared.note.What.{What}
 use Rattle.report_columns.specs.declared.note.What.TheVariants as what
@@ -34,7 +34,7 @@ pub rows_more : (about : What) (t : Table) (place : ℕ) (row : Note) (rows new 
 rows_more about t place row rows new so_far is pushed =
     pushed ∙ ap (λ found. found ++ row ∷ []) so_far
     ∙ ap (λ found. list_of place (row_at about t) ++ found ∷ []) is
-    ∙ sym (list_of_more place (row_at about t))
+    ∙ sym (list_of-next place (row_at about t))
 
 -- three more of a list that is made by places
 three_more : {A : Type 0} (f : ℕ → A) (k : ℕ) (a b c : A) (old one two new : List A) → old ≡ list_of k f
@@ -42,13 +42,13 @@ three_more : {A : Type 0} (f : ℕ → A) (k : ℕ) (a b c : A) (old one two new
     → new ≡ list_of (k + 3) f
 three_more f k a b c old one two new so_far first second third x y z =
     let after_one : one ≡ list_of (k + 1) f =
-    x ∙ ap (λ found. found ++ a ∷ []) so_far ∙ ap (λ found. list_of k f ++ found ∷ []) first ∙ sym (list_of_more k f) in
+    x ∙ ap (λ found. found ++ a ∷ []) so_far ∙ ap (λ found. list_of k f ++ found ∷ []) first ∙ sym (list_of-next k f) in
     let after_two : two ≡ list_of (k + 1 + 1) f =
     y ∙ ap (λ found. found ++ b ∷ []) after_one ∙ ap (λ found. list_of (k + 1) f ++ found ∷ []) second
-    ∙ sym (list_of_more (k + 1) f) in
+    ∙ sym (list_of-next (k + 1) f) in
     let after_three : new ≡ list_of (k + 1 + 1 + 1) f =
     z ∙ ap (λ found. found ++ c ∷ []) (after_two ∙ ap (λ n. list_of n f) two_is)
-    ∙ ap (λ found. list_of (k + 2) f ++ found ∷ []) third ∙ sym (list_of_more (k + 2) f) ∙ ap (λ n. list_of n f)
+    ∙ ap (λ found. list_of (k + 2) f ++ found ∷ []) third ∙ sym (list_of-next (k + 2) f) ∙ ap (λ n. list_of n f)
     three_is in
     after_three ∙ ap (λ n. list_of n f) three_again
   where

@@ -13,10 +13,11 @@ use Rattle.frac_laws.proofs.Linear.{linear, claims, ◌⊞◌, ◌⊠◌}
 use Rattle.frac_laws.proofs.Order.{le_refl, le_trans}
 use Rattle.frac_laws.proofs.Sizes.{size_natural, size_add, size_mul, size_of_natural}
 use Rattle.frac_laws.proofs.Quotients.{whole_suc}
-use Rattle.frac_laws.proofs.Sums.{sum_to_ext, sum_to_first, sum_to_add, sum_to_scale, sum_to_zeros}
+use Rattle.frac_laws.proofs.Sums.{sum_to_ext, sum_to_first, sum_to_scale, sum_to_zeros}
 use Rattle.frac_laws.proofs.Vectors.{number_at-add_lists, number_at-scale_list}
 use Rattle.frac_laws.proofs.Polynomials.{shifted-add_lists, shifted-scale_list, value_at-shifted}
 use Rattle.frac_laws.proofs.Polynomials.{zero-times_linear, length-shifted}
+use Rattle.frac_laws.proofs.Convolutions.{convolution-add_left}
 use Rattle.shift_laws.specs.Shifts.{derivative, size_at, ProductsShift, DerivativesShift, SizesShift}
 use Rattle.shift_laws.specs.Shifts.{FirstIsAValue, SumsAreValues}
 
@@ -37,13 +38,6 @@ pub number_at-shifted : (b c : Fraction) (p : List Fraction) (k : ℕ)
     ≡ number_at (c ∷ []) k +ℚ (b *ℚ number_at (shifted b p) k +ℚ up (number_at (shifted b p)) k)
 number_at-shifted b c p k = number_at-add_lists (c ∷ []) (times_linear b (shifted b p)) k
     ∙ ap (λ z. number_at (c ∷ []) k +ℚ z) (number_at-times_linear b (shifted b p) k)
-
--- convolutions
-pub convolution-add : (f g h : ℕ → Fraction) (k : ℕ)
-    → convolution (λ m. f m +ℚ g m) h k ≡ convolution f h k +ℚ convolution g h k
-convolution-add f g h k =
-    ap (sum_to (suc k)) (fun_ext (λ m. ring (f m ∷ g m ∷ h (k - m) ∷ []) (hlevel terms) refl))
-    ∙ sum_to_add (suc k) (λ m. f m *ℚ h (k - m)) (λ m. g m *ℚ h (k - m))
 
 pub convolution-scale : (c : Fraction) (f h : ℕ → Fraction) (k : ℕ)
     → convolution (λ m. c *ℚ f m) h k ≡ c *ℚ convolution f h k
@@ -76,9 +70,9 @@ products_shift b (c ∷ p) q k =
     (number_at-times_linear b (shifted b (product_of_lists p q)) k
     ∙ ap (λ f. b *ℚ f k +ℚ up f k) (fun_ext (products_shift b p q)))
     ∙ sym (ap (λ f. convolution f (number_at Q) k) (fun_ext (number_at-shifted b c p))
-    ∙ convolution-add (number_at (c ∷ [])) (λ m. b *ℚ number_at P m +ℚ up (number_at P) m) (number_at Q) k
+    ∙ convolution-add_left (number_at (c ∷ [])) (λ m. b *ℚ number_at P m +ℚ up (number_at P) m) (number_at Q) k
     ∙ ap₂ ◌+ℚ◌ (convolution-constant c (number_at Q) k)
-    (convolution-add (λ m. b *ℚ number_at P m) (up (number_at P)) (number_at Q) k
+    (convolution-add_left (λ m. b *ℚ number_at P m) (up (number_at P)) (number_at Q) k
     ∙ ap₂ ◌+ℚ◌ (convolution-scale b (number_at P) (number_at Q) k)
     (convolution-up (number_at P) (number_at Q) k)))
   where

@@ -1,20 +1,14 @@
 -- Numbers set one after another: the places stay, and the numbers stay small.
-use Rattle.std.proofs.Common.{◌≡◌, ℕ, suc, zero, ◌<◌, ◌≤◌, ◌^◌, length, get_or, List, [], ◌∷◌, refl, ◌∙◌, arith}
+use Rattle.std.proofs.Common.{◌≡◌, ℕ, suc, zero, ◌<◌, ◌≤◌, ◌^◌, length, get_or, List, [], ◌∷◌, refl, arith}
 use Rattle.std.proofs.Common.{Bool, true, false}
 use Rattle.std.specs.Prelude.{ℤ, unsigned_abs, cond, nat_eq}
 use Rattle.linear_system.specs.Setting.{HasPlace, HaveSamePlaces, SetsOnly, is_same_place}
 use Rattle.linear_system.specs.StoredSystem.{StoredSystem, IsSystem, dim_of, row_of, place_of, stored_number}
+use Rattle.linear_system.proofs.Made.{same_places_then}
 use Rattle.step_bench.specs.Small.{HasSmallNumbers, IsSmallSystem}
 
 pub same_places : (s : StoredSystem) → HaveSamePlaces s s
 same_places s = record { dim = refl; degree = refl; columns = λ row. refl }
-
-pub then_same : (a b c : StoredSystem) → HaveSamePlaces a b → HaveSamePlaces b c → HaveSamePlaces a c
-then_same a b c h k = record {
-  dim = k.dim ∙ h.dim;
-  degree = k.degree ∙ h.degree;
-  columns = λ row. k.columns row ∙ h.columns row;
-}
 
 pub small_kept : (old new : StoredSystem) (row col m : ℕ) (v : ℤ) → SetsOnly old new row col m v → unsigned_abs
     v ≤ 2 ^ 40
@@ -67,4 +61,4 @@ pub keeps_first : (s : StoredSystem) → HasSmallNumbers s → KeepsSmall s s
 keeps_first s h = record { places = same_places s; small = h }
 
 pub keeps_then : (a b c : StoredSystem) → KeepsSmall a b → HaveSamePlaces b c → HasSmallNumbers c → KeepsSmall a c
-keeps_then a b c h p k = record { places = then_same a b c h.places p; small = k }
+keeps_then a b c h p k = record { places = same_places_then a b c h.places p; small = k }

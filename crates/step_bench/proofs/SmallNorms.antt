@@ -14,6 +14,7 @@ use Rattle.frac_laws.proofs.Quotients.{over_le_of_cross}
 use Rattle.frac_laws.proofs.Sizes.{size_of_natural}
 use Rattle.frac_laws.proofs.Sums.{sum_to_split, sum_to_mono}
 use Rattle.cell_laws.specs.Tame.{matrix_norm_at, one_factor_map, weighted}
+use Rattle.cell_laws.proofs.Decay.{eights_natural}
 
 row_sums-shift : (a : Matrix) (i : ℕ) → number_at (row_sums (shift_rows a)) i ≡ number_at (row_sums a) i
 row_sums-shift [] i = refl
@@ -64,18 +65,14 @@ total_low c f h =
     (sum_to_mono 6 {f = λ m. f (6 + m)} {g = λ m. whole (pos 0)} (λ m b. h.late (6 + m) (omega arith))))
     (le_of_equal (ring (c ∷ []) (hlevel terms) refl)))
 
-eights : (m : ℕ) → whole (pos 0) ≤ℚ power (whole (pos 8)) m
-eights zero = natural 1 1
-eights (suc m) = linear (power (whole (pos 8)) m ∷ []) (natural 8 1 ⊠ eights m) (hlevel claims) refl
-
 -- 1 + 8 + .. + 8^5 = 37449
 pub weighted_low : (c : Fraction) (f : ℕ → Fraction) → IsLow c f → sum_to 12 (weighted f) ≤ℚ whole (pos 37449) *ℚ c
 weighted_low c f h =
     le_trans (le_of_equal (sum_to_split 6 6 (weighted f)))
     (le_trans (add_mono (sum_to_mono 6 {f = weighted f} {g = λ m. power (whole (pos 8)) m *ℚ c}
-    (λ m b. times _ (f m) c (eights m) (h.early m b)))
+    (λ m b. times _ (f m) c (eights_natural m) (h.early m b)))
     (sum_to_mono 6 {f = λ m. weighted f (6 + m)} {g = λ m. whole (pos 0)}
-    (λ m b. nothing _ (f (6 + m)) (eights (6 + m)) (h.late (6 + m) (omega arith)))))
+    (λ m b. nothing _ (f (6 + m)) (eights_natural (6 + m)) (h.late (6 + m) (omega arith)))))
     (le_of_equal (ring (c ∷ []) (hlevel terms) refl)))
   where
     times : (w x y : Fraction) → whole (pos 0) ≤ℚ w → x ≤ℚ y → w *ℚ x ≤ℚ w *ℚ y

@@ -6,19 +6,19 @@ use Rattle.std.proofs.lemmas.Bool.{cases_lt}
 use Rattle.frac_laws.specs.Fraction.{Fraction, over, whole, ◌+ℚ◌, ◌*ℚ◌, ◌-ℚ◌, ◌≤ℚ◌, size}
 use Rattle.frac_laws.specs.Lists.{number_at, vector_at, matrix_at}
 use Rattle.frac_laws.specs.Norms.{Sup, norm_of_matrix}
-use Rattle.frac_laws.proofs.FractionTerms.{ring, terms}
 use Rattle.frac_laws.proofs.Linear.{linear, claims, natural, ◌⊞◌, ◌⊠◌}
 use Rattle.frac_laws.proofs.Norms.{size_zero, matrix_norm_natural}
 use Rattle.frac_laws.proofs.Order.{le_trans, le_of_equal, le_refl}
 use Rattle.frac_laws.proofs.Quotients.{whole_le}
 use Rattle.frac_laws.proofs.SmallNumbers.{matrix_norm_of_small, sup_of_small}
 use Rattle.frac_laws.proofs.Sums.{sum_to_natural}
+use Rattle.frac_laws.proofs.Lengths.{number_at-past}
 use Rattle.cell_laws.specs.Tame.{IsTame, matrix_norm_at, vector_norm_at, total_norm, one_factor_map}
 use Rattle.linear_system.specs.StandsFor.{units, StandsFor}
 use Rattle.linear_system.specs.StoredSystem.{StoredSystem, IsSystem, dim_of, row_of, stored_number, stored_free}
+use Rattle.linear_system.proofs.NumbersInUnits.{equal_is_near}
 use Rattle.step_laws.specs.StandsFor.{MatricesFit}
 use Rattle.std.proofs.lemmas.List.{get_or_past}
-use Rattle.step_laws.proofs.Differences.{number_past}
 use Rattle.step_laws.proofs.Listed.{matrices_of, vectors_of, matrices_fit, vectors_fit, entry_is, free_is}
 use Rattle.step_bench.specs.Small.{IsSmallSystem}
 use Rattle.step_bench.proofs.SmallNorms.{IsLow, one_factor_norm, total_low, weighted_low}
@@ -41,12 +41,6 @@ size_small z h = le_trans (le_of_equal (sym (size_units z)))
 
 size_nothing : (z : ℤ) → z ≡ pos 0 → size (units z) ≤ℚ whole (pos 0)
 size_nothing z e = rw (e, no_units, size_zero) (le_refl _)
-
-exact_near : (x y : Fraction) (error : ℕ) → x ≡ y → size (x -ℚ y) ≤ℚ units (pos error)
-exact_near x y error e = rw (e, nothing y, size_zero) (natural error (2 ^ 64))
-  where
-    nothing : (y : Fraction) → y -ℚ y ≡ whole (pos 0)
-    nothing y = ring (y ∷ []) (hlevel terms) refl
 
 module _ (s : StoredSystem) (sys : IsSystem s) (few : IsSmallSystem s) where
   entry_at_row : (m row col : ℕ) → row < dim_of s → col < dim_of s
@@ -75,13 +69,13 @@ module _ (s : StoredSystem) (sys : IsSystem s) (few : IsSmallSystem s) where
       record {
         dimension = refl;
         matrices = record {
-          near = λ row col m b c. exact_near _ _ 1 (entry_at_row m row col b c);
+          near = λ row col m b c. equal_is_near _ _ 1 (entry_at_row m row col b c);
           rows = fit.rows;
           columns = fit.columns;
           no_more = λ row col m b. fit.no_more m row col b;
         };
         free = record {
-          near = λ row m b. exact_near _ _ 3 (free_at_row m row b);
+          near = λ row m b. equal_is_near _ _ 3 (free_at_row m row b);
           rows = free_fit.numbers;
           no_more = λ row m b. free_fit.no_more m row b;
         };
@@ -110,7 +104,7 @@ module _ (s : StoredSystem) (sys : IsSystem s) (few : IsSmallSystem s) where
           (matrices_of (dim_of s) (λ m row col. units (stored_number s row col m))) m) row) col) ≤ℚ r
       by_place (inl b) (inl c) = le_trans (le_of_equal (ap size (entry_at_row m row col b c))) (h row col b c)
       by_place (inl b) (inr c) = outside _
-          (number_past (vector_at (matrix_at
+          (number_at-past (vector_at (matrix_at
           (matrices_of (dim_of s) (λ m row col. units (stored_number s row col m))) m) row) (dim_of s) col
           (fit.columns m row) c)
       by_place (inr b) c = outside _ (ap (λ v. number_at v col)
@@ -143,7 +137,7 @@ module _ (s : StoredSystem) (sys : IsSystem s) (few : IsSmallSystem s) where
           (number_at (vector_at (vectors_of (dim_of s) (λ m row. units (stored_free s row m))) m) row) ≤ℚ r
       by_place row (inl b) = le_trans (le_of_equal (ap size (free_at_row m row b))) (h row b)
       by_place row (inr b) = rw (
-        number_past (vector_at (vectors_of (dim_of s) (λ m row. units (stored_free s row m))) m) (dim_of s) row
+        number_at-past (vector_at (vectors_of (dim_of s) (λ m row. units (stored_free s row m))) m) (dim_of s) row
             ((vectors_fit (dim_of s) (λ m row. units (stored_free s row m))).numbers m) b,
         size_zero,
       ) z

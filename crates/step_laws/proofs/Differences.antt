@@ -10,7 +10,8 @@ use Rattle.frac_laws.specs.Norms.{Norm, norm_of_matrix}
 use Rattle.frac_laws.proofs.FractionTerms.{ring, terms}
 use Rattle.frac_laws.proofs.Linear.{linear, claims, natural}
 use Rattle.frac_laws.proofs.Order.{le_refl, le_trans, le_of_equal, le_antisym}
-use Rattle.frac_laws.proofs.Lengths.{add_lists_fits, scale_list_fits}
+use Rattle.frac_laws.proofs.Lengths.{add_lists_fits, scale_list_fits, number_at-past, length-scale_matrix}
+use Rattle.frac_laws.proofs.Lengths.{add_matrices_fits}
 use Rattle.frac_laws.proofs.Vectors.{number_at-subtract_lists, image-add, image-scale}
 use Rattle.frac_laws.proofs.Norms.{matrix_norm_natural, size_zero}
 use Rattle.frac_laws.proofs.SmallNumbers.{IsSmall, matrix_norm_of_small}
@@ -39,18 +40,6 @@ vector_at-scale_matrix c [] i = refl
 vector_at-scale_matrix c (row ∷ a) zero = refl
 vector_at-scale_matrix c (row ∷ a) (suc i) = vector_at-scale_matrix c a i
 
-length-scale_matrix : (c : Fraction) (a : Matrix) → length (scale_matrix c a) ≡ length a
-length-scale_matrix c [] = refl
-length-scale_matrix c (row ∷ a) = ap suc (length-scale_matrix c a)
-
-add_matrices_fits : (d : ℕ) (a b : Matrix) → length a ≤ d → length b ≤ d → length (add_matrices a b) ≤ d
-add_matrices_fits d [] b h k = k
-add_matrices_fits d (row ∷ a) [] h k = h
-add_matrices_fits zero (row ∷ a) (other ∷ b) h k = absurd (omega arith)
-add_matrices_fits (suc d) (row ∷ a) (other ∷ b) h k =
-    let e : length (add_matrices a b) ≤ d = add_matrices_fits d a b (omega arith) (omega arith) in
-    omega arith
-
 -- the difference's rows, numbers and images
 module _ (exact stored : List Matrix) (m : ℕ) where
   row_is : (i : ℕ) → vector_at (difference exact stored m) i ≡ add_lists (vector_at (matrix_at exact m) i)
@@ -73,10 +62,6 @@ module _ (exact stored : List Matrix) (m : ℕ) where
       ∙ ring (number_at (image (matrix_at exact m) v) i ∷ number_at (image (matrix_at stored m) v) i ∷ [])
       (hlevel terms) refl
 
--- what lies outside is 0
-pub number_past : (v : Vector) (d i : ℕ) → length v ≤ d → d ≤ i → number_at v i ≡ whole (pos 0)
-number_past v d i h k = get_or_past v i (whole (pos 0)) (omega arith)
-
 pub entry_past_rows : (matrices : List Matrix) (d m i j : ℕ) → length (matrix_at matrices m) ≤ d → d ≤ i
     → entry_at matrices m i j ≡ whole (pos 0)
 entry_past_rows matrices d m i j h k =
@@ -93,8 +78,8 @@ module _ (error d : ℕ) (stored exact : List Matrix) (s : MatricesStandFor erro
     | inl b ↦ elim (cases_lt j d) [
       | inl c ↦ s.near m i j b c
       | inr c ↦ both_zero
-          (number_past (vector_at (matrix_at exact m) i) d j (s.exact_fit.columns m i) c)
-          (number_past (vector_at (matrix_at stored m) i) d j (s.stored_fit.columns m i) c)
+          (number_at-past (vector_at (matrix_at exact m) i) d j (s.exact_fit.columns m i) c)
+          (number_at-past (vector_at (matrix_at stored m) i) d j (s.stored_fit.columns m i) c)
           (natural error (2 ^ 64))
     ]
     | inr b ↦ both_zero (entry_past_rows exact d m i j (s.exact_fit.rows m) b)

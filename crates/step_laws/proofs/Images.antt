@@ -38,9 +38,9 @@ norm-subtract_lists norm u v = le_trans (norm-add_lists norm u (scale_list (whol
         let e : whole (negsuc 0) ≡ opposite (whole (pos 1)) = ring [] (hlevel terms) refl in
         ap size e ∙ size-opposite (whole (pos 1)) ∙ size_of_natural (natural 1 1)
 
-image-subtract_lists : (a : Matrix) (x y : Vector) (i : ℕ)
+pub image-subtract : (a : Matrix) (x y : Vector) (i : ℕ)
     → number_at (image a (subtract_lists x y)) i ≡ number_at (image a x) i -ℚ number_at (image a y) i
-image-subtract_lists a x y i = rw (
+image-subtract a x y i = rw (
   number_at-image a (subtract_lists x y) i,
   number_at-image a x i,
   number_at-image a y i,
@@ -106,7 +106,7 @@ module _ (norm : Norm) (exact stored : List Matrix) where
     part_is i m = sym (number_at-add_lists
         (image (matrix_at stored m) (subtract_lists (y (k - m)) (z (k - m))))
         (image (difference exact stored m) (y (k - m))) i
-        ∙ ap₂ ◌+ℚ◌ (image-subtract_lists (matrix_at stored m) (y (k - m)) (z (k - m)) i)
+        ∙ ap₂ ◌+ℚ◌ (image-subtract (matrix_at stored m) (y (k - m)) (z (k - m)) i)
         (image-difference exact stored m (y (k - m)) i)
         ∙ ring (number_at (image (matrix_at exact m) (y (k - m))) i ∷ number_at
         (image (matrix_at stored m) (y (k - m))) i ∷ number_at (image (matrix_at stored m) (z (k - m))) i ∷

@@ -13,6 +13,7 @@ use Rattle.frac_laws.proofs.Order.{le_trans, le_of_equal, le_of_lt}
 use Rattle.frac_laws.proofs.Sizes.{size_of_natural}
 use Rattle.frac_laws.proofs.Signs.{mul_natural}
 use Rattle.frac_laws.proofs.Lengths.{add_lists_fits, scale_list_fits, subtract_lists_fits, image_fits}
+use Rattle.frac_laws.proofs.Lengths.{number_at-past}
 use Rattle.frac_laws.proofs.Vectors.{number_at-add_lists, number_at-scale_list, number_at-subtract_lists}
 use Rattle.frac_laws.proofs.Norms.{size_zero}
 use Rattle.frac_laws.proofs.SmallNumbers.{AreWithin, sup_of_small, sum_of_small}
@@ -20,7 +21,6 @@ use Rattle.cell_laws.specs.Recurrence.{convolved}
 use Rattle.cell_laws.proofs.VectorSums.{sum_over}
 use Rattle.step_laws.specs.StandsFor.{units}
 use Rattle.step_laws.specs.RoundedRuns.{IsRoundedDown}
-use Rattle.step_laws.proofs.Differences.{number_past}
 use Rattle.step_laws.proofs.Images.{images, number_at-images}
 
 -- how many times a bound of each of d numbers bounds the norm
@@ -81,7 +81,7 @@ module _ (d : ℕ) (stored : List Matrix) (h z : ℕ → Vector) (k : ℕ)
     | inl b ↦ rw (number_at-residue stored h z k i)
         (between (convolved stored z k i +ℚ number_at (h k) i)
         (number_at (z (suc k)) i) (rounded i b))
-    | inr b ↦ le_trans (le_of_equal (ap size (number_past (residue stored h z k) d i residue_fits b) ∙ size_zero))
+    | inr b ↦ le_trans (le_of_equal (ap size (number_at-past (residue stored h z k) d i residue_fits b) ∙ size_zero))
         some_units
   ]
     where

@@ -1,7 +1,7 @@
 -- The sample, computed.
 use Rattle.std.specs.Prelude.{◌≡◌, ℕ, suc, zero, pos, Bool, true, false, cond, List, [], ◌∷◌, length}
-use Rattle.std.specs.Prelude.{◌<◌, ◌≤◌, ◌⊎◌, ◌^◌, nat_le}
-use Rattle.std.proofs.Common.{refl, sym, inl, inr, arith}
+use Rattle.std.specs.Prelude.{◌<◌, ◌≤◌, ◌^◌, nat_le}
+use Rattle.std.proofs.Common.{refl, sym, arith}
 use mathlib.Core.Quot.{sound}
 use Rattle.frac_laws.specs.Fraction.{Fraction, whole, ◌+ℚ◌, ◌*ℚ◌, ◌-ℚ◌, ◌≤ℚ◌, opposite, is_not_negative}
 use Rattle.frac_laws.specs.Fraction.{size, greater}
@@ -18,30 +18,10 @@ use Rattle.step_laws.specs.Samples.{exact_system, stored_system, sample_start, s
 use Rattle.step_laws.specs.Samples.{sample_coefficients, sample_early, SampleStaysNear, SampleMayStop}
 use Rattle.step_laws.specs.Samples.{SampleMayNotStopAtNine, SampleIsRoundedEarly, SampleStaysNearEarly}
 use Rattle.step_laws.specs.Samples.{SampleStandsFor, SampleIsTame, SampleIsRounded, SampleStartIsNear}
+use Rattle.whole_laws.specs.Whole.{holds_below}
+use Rattle.whole_laws.proofs.Tests.{holds_at_each}
 use Rattle.step_laws.proofs.Differences.{both_zero}
 use Rattle.step_laws.proofs.Steps.{steps_stay_within_their_radius}
-
--- a test that holds at each number below n
-abbrev holds_below : ℕ → (ℕ → Bool) → Bool
-holds_below zero test = true
-holds_below (suc n) test = cond (test n) (holds_below n test) false
-
-both : (b c : Bool) → cond b c false ≡ true → (b ≡ true) × (c ≡ true)
-both true c e = (refl, e)
-both false c e = absurd (impossible e)
-  where
-    impossible : false ≡ true → ⊥
-    impossible e = cc
-
-at_each : (n : ℕ) (test : ℕ → Bool) → holds_below n test ≡ true → (k : ℕ) → k < n → test k ≡ true
-at_each zero test e k b = absurd (omega arith)
-at_each (suc n) test e k b = elim (which k n b) [
-  | inl c ↦ at_each n test (both (test n) (holds_below n test) e).1 k c
-  | inr c ↦ rw c (both (test n) (holds_below n test) e).0
-]
-  where
-    which : (k n : ℕ) → k < suc n → (k < n) ⊎ (k ≡ n)
-    which k n b = grind arith
 
 not_true : (b : Bool) → cond b false true ≡ true → b ≡ false
 not_true true e = sym e
@@ -112,9 +92,9 @@ stored_matrices = record {
 }
   where
     at_power : (m row col : ℕ) → m < 2 → row < 2 → col < 2 → matrix_test m row col ≡ true
-    at_power m row col a b c = at_each 2 (matrix_test m row)
-        (at_each 2 (λ row. holds_below 2 (matrix_test m row))
-        (at_each 2 (λ m. holds_below 2 (λ row. holds_below 2 (matrix_test m row))) matrices_near m a) row b) col c
+    at_power m row col a b c = holds_at_each 2 (matrix_test m row)
+        (holds_at_each 2 (λ row. holds_below 2 (matrix_test m row))
+        (holds_at_each 2 (λ m. holds_below 2 (λ row. holds_below 2 (matrix_test m row))) matrices_near m a) row b) col c
 
     near : (m row col : ℕ) → row < 2 → col < 2
         → size (entry_at exact_system.matrices m row col -ℚ entry_at stored_system.matrices m row col)
@@ -131,8 +111,8 @@ stored_free = record {
 }
   where
     at_power : (m row : ℕ) → m < 2 → row < 2 → free_test m row ≡ true
-    at_power m row a b = at_each 2 (free_test m)
-        (at_each 2 (λ m. holds_below 2 (free_test m)) free_near m a) row b
+    at_power m row a b = holds_at_each 2 (free_test m)
+        (holds_at_each 2 (λ m. holds_below 2 (free_test m)) free_near m a) row b
 
     near : (m row : ℕ) → row < 2
         → size (number_at (vector_at exact_system.free m) row -ℚ number_at (vector_at stored_system.free m) row)
@@ -195,14 +175,14 @@ pub sample_is_rounded : SampleIsRounded
 sample_is_rounded = record {
   starts = λ row. refl;
   fits = λ k b. fits (length (sample_coefficients k))
-      (at_each 25 (λ k. nat_le (length (sample_coefficients k)) 2) all_fit k (omega arith));
+      (holds_at_each 25 (λ k. nat_le (length (sample_coefficients k)) 2) all_fit k (omega arith));
   rounded = λ k row b c. record {
     below = record {
-      le = at_each 2 (below_test k) (at_each 24 (λ k. holds_below 2 (below_test k)) all_below k b) row c;
+      le = holds_at_each 2 (below_test k) (holds_at_each 24 (λ k. holds_below 2 (below_test k)) all_below k b) row c;
     };
     within = record {
-      lt = not_true (above_test k row) (at_each 2 (λ row. cond (above_test k row) false true)
-          (at_each 24 (λ k. holds_below 2 (λ row. cond (above_test k row) false true)) all_within k b) row c);
+      lt = not_true (above_test k row) (holds_at_each 2 (λ row. cond (above_test k row) false true)
+          (holds_at_each 24 (λ k. holds_below 2 (λ row. cond (above_test k row) false true)) all_within k b) row c);
     };
   };
   total = sample_total;

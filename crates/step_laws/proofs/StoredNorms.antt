@@ -12,7 +12,7 @@ use Rattle.frac_laws.proofs.Order.{le_refl, le_trans, le_of_equal, le_antisym}
 use Rattle.frac_laws.proofs.Sums.{sum_to_ext, sum_to_add, sum_to_mono}
 use Rattle.frac_laws.proofs.Convolutions.{sum_to_within}
 use Rattle.frac_laws.proofs.Quotients.{inverse}
-use Rattle.frac_laws.proofs.Lengths.{subtract_lists_fits}
+use Rattle.frac_laws.proofs.Lengths.{subtract_lists_fits, number_at-past}
 use Rattle.frac_laws.proofs.Vectors.{number_at-subtract_lists}
 use Rattle.frac_laws.proofs.Norms.{norm_natural, size_zero}
 use Rattle.frac_laws.proofs.SmallNumbers.{matrix_norm_of_small}
@@ -24,7 +24,7 @@ use Rattle.cell_laws.proofs.Cancelling.{one_le_suc}
 use Rattle.cell_laws.proofs.TameSums.{matrix_norms_natural, weighted_within}
 use Rattle.step_laws.specs.StandsFor.{units, entry_at, MatricesFit, MatricesStandFor, VectorsStandFor}
 use Rattle.step_laws.specs.RoundedRuns.{AreEmptyAbove}
-use Rattle.step_laws.proofs.Differences.{change_is_small, no_change_past, number_past, both_zero}
+use Rattle.step_laws.proofs.Differences.{change_is_small, no_change_past, both_zero}
 use Rattle.step_laws.proofs.Differences.{near_everywhere}
 use Rattle.step_laws.proofs.Images.{changes, stored_factors, changes_natural}
 use Rattle.step_laws.proofs.Halves.{IsShort, short_total, weighted_short_total}
@@ -82,8 +82,8 @@ module _ (norm : Norm) (error d : ℕ) (stored exact : List Vector) (s : Vectors
       → size (number_at (vector_at exact m) i -ℚ number_at (vector_at stored m) i) ≤ℚ units error
   free_near_everywhere m i = elim (cases_lt i d) [
     | inl b ↦ s.near m i b
-    | inr b ↦ both_zero (number_past (vector_at exact m) d i (s.exact_fit.numbers m) b)
-        (number_past (vector_at stored m) d i (s.stored_fit.numbers m) b) (natural error (2 ^ 64))
+    | inr b ↦ both_zero (number_at-past (vector_at exact m) d i (s.exact_fit.numbers m) b)
+        (number_at-past (vector_at stored m) d i (s.stored_fit.numbers m) b) (natural error (2 ^ 64))
   ]
 
   pub free_changes_are_short : IsShort (spread norm d *ℚ units error) free_changes
@@ -154,7 +154,7 @@ decaying_total n bound v z h = plain (sum_to n (λ i. v (0 + i))) (sum_to n v)
     plain s t e k = rw (← e) (linear (s ∷ bound ∷ []) k (hlevel claims) refl)
 
 -- a plain sum is at most the weighted one
-one_le_eights : (m : ℕ) → whole (pos 1) ≤ℚ power (whole (pos 8)) m
+pub one_le_eights : (m : ℕ) → whole (pos 1) ≤ℚ power (whole (pos 8)) m
 one_le_eights zero = le_refl _
 one_le_eights (suc m) = linear (power (whole (pos 8)) m ∷ []) (natural 8 1 ⊠ one_le_eights m ⊞ natural 7 1)
     (hlevel claims) refl

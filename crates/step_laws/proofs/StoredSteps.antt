@@ -9,6 +9,7 @@ use Rattle.frac_laws.specs.Lists.{Vector, SameNumbers, number_at, vector_at, mat
 use Rattle.frac_laws.proofs.Linear.{linear, claims, natural, ◌⊠◌}
 use Rattle.frac_laws.proofs.Norms.{size_zero}
 use Rattle.frac_laws.proofs.Sums.{sum_to_ext, sum_to_zeros}
+use Rattle.frac_laws.proofs.Lengths.{number_at-past}
 use Rattle.cell_laws.specs.Systems.{System}
 use Rattle.cell_laws.proofs.Decay.{eights_natural}
 use Rattle.step_laws.specs.StandsFor.{StandsFor, MatricesStandFor, VectorsStandFor}
@@ -19,7 +20,7 @@ use Rattle.step_laws.specs.StepLaws.{most_numbers}
 use Rattle.step_laws.specs.StoredSteps.{StoredNumbers, StoredStandFor, IsStoredStep, stored_sum}
 use Rattle.step_laws.specs.StoredSteps.{StoredStepsStayWithinTheirRadius, StoredMayStop}
 use Rattle.step_laws.specs.StoredSteps.StoredMayStop.{at_last as stored_at_last, after_window as stored_after_window}
-use Rattle.step_laws.proofs.Differences.{number_past, entry_past_rows}
+use Rattle.step_laws.proofs.Differences.{entry_past_rows}
 use Rattle.step_laws.proofs.Steps.{steps_stay_within_their_radius}
 use Rattle.step_laws.proofs.Listed.{vector_of, matrices_of, vectors_of, number_at-vector_of, vector_of_fits}
 use Rattle.step_laws.proofs.Listed.{convolved_is, free_is, matrices_stand, vectors_stand, entry_is}
@@ -30,7 +31,7 @@ pub same_up_to : (d : ℕ) (u v : Vector) → length u ≤ d → length v ≤ d
     → ((i : ℕ) → i < d → number_at u i ≡ number_at v i) → SameNumbers u v
 same_up_to d u v hu hv h i = elim (cases_lt i d) [
   | inl b ↦ h i b
-  | inr b ↦ number_past u d i hu b ∙ sym (number_past v d i hv b)
+  | inr b ↦ number_at-past u d i hu b ∙ sym (number_at-past v d i hv b)
 ]
 
 -- a run given by its numbers is a run of the vectors that list them
@@ -49,8 +50,8 @@ listed_run degree d sums own mid new z hm hn starts same rounded total = record 
       (subst (λ x. IsRoundedDown x (suc k) (z (suc k) i)) (sym (same k i c)) (rounded k i b c));
   total = λ i. elim (cases_lt i d) [
     | inl b ↦ total i b ∙ sym (sum_to_ext (suc degree) (λ k l. number_at-vector_of d (z k) i b))
-    | inr b ↦ number_past new d i hn b
-        ∙ sym (sum_to_zeros (suc degree) (λ k l. number_past (vector_of d (z k)) d i (vector_of_fits d (z k)) b))
+    | inr b ↦ number_at-past new d i hn b
+        ∙ sym (sum_to_zeros (suc degree) (λ k l. number_at-past (vector_of d (z k)) d i (vector_of_fits d (z k)) b))
   ];
 }
 
@@ -89,7 +90,7 @@ pub empty_matrices : (dim d : ℕ) (f : (m row col : ℕ) → Fraction)
 empty_matrices dim d f h none m row col b = elim (cases_lt row dim) [
   | inl r ↦ elim (cases_lt col dim) [
     | inl c ↦ entry_is dim f none m row col r c ∙ h m row col r c b
-    | inr c ↦ number_past (vector_at (matrix_at (matrices_of dim f) m) row) dim col (matrix_columns dim f m row) c
+    | inr c ↦ number_at-past (vector_at (matrix_at (matrices_of dim f) m) row) dim col (matrix_columns dim f m row) c
   ]
   | inr r ↦ entry_past_rows (matrices_of dim f) dim m row col ((matrices_fit dim f).rows m) r
 ]
@@ -100,7 +101,7 @@ pub empty_vectors : (dim d : ℕ) (f : (m row : ℕ) → Fraction)
     → VectorsAreEmptyAbove d (vectors_of dim f)
 empty_vectors dim d f h none m row b = elim (cases_lt row dim) [
   | inl r ↦ free_is dim f none m row r ∙ h m row r b
-  | inr r ↦ number_past (vector_at (vectors_of dim f) m) dim row ((vectors_fit dim f).numbers m) r
+  | inr r ↦ number_at-past (vector_at (vectors_of dim f) m) dim row ((vectors_fit dim f).numbers m) r
 ]
 
 pub listed_window : (dim degree d : ℕ) (z : (k row : ℕ) → Fraction)
@@ -108,7 +109,7 @@ pub listed_window : (dim degree d : ℕ) (z : (k row : ℕ) → Fraction)
     → HasWindow degree d (λ k. vector_of dim (z k))
 listed_window dim degree d z h m i b = elim (cases_lt i dim) [
   | inl c ↦ rw (number_at-vector_of dim (z (degree - m)) i c) (h m i c b)
-  | inr c ↦ rw (number_past (vector_of dim (z (degree - m))) dim i (vector_of_fits dim (z (degree - m))) c, size_zero)
+  | inr c ↦ rw (number_at-past (vector_of dim (z (degree - m))) dim i (vector_of_fits dim (z (degree - m))) c, size_zero)
       (linear (power (whole (pos 8)) m ∷ []) (natural 64 (2 ^ 64) ⊠ eights_natural m) (hlevel claims) refl)
 ]
 

@@ -57,7 +57,7 @@ number_near u v i =
     (number_below_norm Sup (subtract_lists u v) i)
 
 -- a date's numbers: exact z + 2 l w + l^2 against the stored ones
-date_number : (z w l z0 w0 z1 s r t : Fraction) → size (z -ℚ z0) ≤ℚ s → size (w -ℚ w0) ≤ℚ r → size l ≤ℚ t
+pub date_number : (z w l z0 w0 z1 s r t : Fraction) → size (z -ℚ z0) ≤ℚ s → size (w -ℚ w0) ≤ℚ r → size l ≤ℚ t
     → size (z1 -ℚ (z0 +ℚ whole (pos 2) *ℚ l *ℚ w0 +ℚ l *ℚ l)) ≤ℚ units 4
     → size ((z +ℚ whole (pos 2) *ℚ l *ℚ w +ℚ l *ℚ l) -ℚ z1) ≤ℚ s +ℚ whole (pos 2) *ℚ t *ℚ r +ℚ units 4
 date_number z w l z0 w0 z1 s r t hz hw hl stored =
@@ -75,7 +75,7 @@ date_number z w l z0 w0 z1 s r t hz hw hl stored =
     (size_sub (a +ℚ b) c ⊞ size_add a b ⊞ hz ⊞ le_of_equal sized ⊞ product ⊠ natural 2 1 ⊞ stored) (hlevel claims) refl)
 
 -- the ledger covers what a date adds
-date_ledger : (s l w g : ℕ) → 1 ≤ g
+pub date_ledger : (s l w g : ℕ) → 1 ≤ g
     → units s +ℚ whole (pos 2) *ℚ (over (pos 1) g *ℚ whole (pos l)) *ℚ units w +ℚ units 4
     ≤ℚ units (s + (div_ceil (2 * l * w) g + 4))
 date_ledger s l w g some =
@@ -185,7 +185,7 @@ module _ (product : Product) (date : ℕ) (v : Moments) (w0 z0 z1 : Vector) (r s
           (hlevel claims) refl)
 
 -- what the second half takes is counted
-taken_counts : (pay radius g : ℕ) → 1 ≤ g
+pub taken_counts : (pay radius g : ℕ) → 1 ≤ g
     → over (pos (2 * pay)) (1024 * g) *ℚ whole (pos radius) ≤ℚ whole (pos (div_ceil (2 * pay * radius) (1024 * g)))
 taken_counts pay radius g some =
     let rounded = rounded_up_le (2 * pay * radius) (1024 * g) (omega (arith, some)) in

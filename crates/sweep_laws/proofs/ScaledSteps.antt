@@ -41,7 +41,7 @@ use Rattle.probability_laws.proofs.ProbabilityRuns.{probabilities_stay_small}
 use Rattle.probability_laws.proofs.ProbabilityRuns as probability_runs
 
 -- divided by G, a vector within G is within one
-scaled_within : (g : ℕ) (v : Vector) → norm_of_vector Sup v ≤ℚ whole (pos (2 ^ g))
+pub scaled_within : (g : ℕ) (v : Vector) → norm_of_vector Sup v ≤ℚ whole (pos (2 ^ g))
     → norm_of_vector Sup (scale_list (over (pos 1) (2 ^ g)) v) ≤ℚ whole (pos 1)
 scaled_within g v within =
     let h = over (pos 1) (2 ^ g) in
@@ -64,7 +64,7 @@ square_scaled_within g v within =
     refl)
 
 -- a scaled system keeps its dimension
-scaled_keeps : (c : Fraction) (s : System) → KeepsDimension s → KeepsDimension (scaled_system c s)
+pub scaled_keeps : (c : Fraction) (s : System) → KeepsDimension s → KeepsDimension (scaled_system c s)
 scaled_keeps c s keeps = record {
   rows = keeps.rows;
   free = λ k. rw (free-scaled c s.free k) (scale_list_fits s.dimension c (vector_at s.free k) (keeps.free k));

@@ -37,7 +37,7 @@ use Rattle.taylor_step.proofs.Floors.{rounded_run}
 use Rattle.taylor_step.proofs.Scaled.{unit, units_is, no_units, number_beyond}
 use Rattle.taylor_step.proofs.Sizes.{size_of}
 use Rattle.taylor_step.proofs.StoredSizes.{size_units, sum_same}
-use Rattle.taylor_step.proofs.Tops.{at_each}
+use Rattle.whole_laws.proofs.Tests.{holds_at_each}
 
 -- the coefficients back from a power are those of the powers before it
 pub exact_back_is : (s : StoredSystem) (mid : List ℤ) (k m row : ℕ) → m ≤ k
@@ -217,9 +217,9 @@ module _ (s : StoredSystem) (mid : List ℤ) (sys : IsSystem s) (long : length m
   pub small_of_exact : (k : ℕ) → is_small_at s mid k ≡ true → HasSmallBack s mid k
   small_of_exact k h m row b c = whole_size (coefficient s mid (k - m) row) (exact_coefficient s mid (k - m) row) m
       (near_exact (k - m) row c) (record {
-        le = at_each (dim_of s)
+        le = holds_at_each (dim_of s)
             (λ row. is_not_negative (units (pos (32 * 8 ^ m)) -ℚ size (exact_coefficient s mid (k - m) row)))
-            (at_each (suc (greatest_power s)) (is_small_back s mid k) h m (omega arith)) row c;
+            (holds_at_each (suc (greatest_power s)) (is_small_back s mid k) h m (omega arith)) row c;
       })
     where
       whole_size : (z : ℤ) (y : Fraction) (m : ℕ) → size (y -ℚ units z) ≤ℚ whole (pos 2) *ℚ unit

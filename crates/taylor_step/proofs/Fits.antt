@@ -10,7 +10,6 @@ use Rattle.frac_laws.proofs.FractionTerms.{ring, terms}
 use Rattle.frac_laws.proofs.Linear.{linear, claims, natural, ◌⊠◌}
 use Rattle.frac_laws.proofs.Order.{le_trans, le_of_equal, add_mono}
 use Rattle.frac_laws.proofs.Quotients.{whole_le, whole_add, whole_mul, over_is}
-use Rattle.frac_laws.proofs.Powers.{power_one, power_mono}
 use Rattle.frac_laws.proofs.Signs.{add_natural, mul_natural}
 use Rattle.frac_laws.proofs.Sums.{sum_to_split, sum_to_add, sum_to_zeros, sum_to_scale}
 use Rattle.cell_laws.specs.Systems.{System}
@@ -29,6 +28,7 @@ use Rattle.taylor_step.proofs.StoredSizes.{row_total, column_at_power, in_whole_
 use Rattle.taylor_step.proofs.StoredSizes.{powers_with_errors}
 use Rattle.taylor_step.proofs.Scaled.{unit}
 use Rattle.taylor_step.proofs.SumForms.{sums_equal, sums_ordered}
+use Rattle.step_laws.proofs.StoredNorms.{one_le_eights}
 
 -- a total of at most a number of 64ths, and the errors of n powers of d numbers, in units
 counted_total : (total : Fraction) (n d error parts most : ℕ) → total ≤ℚ over (pos parts) 64
@@ -97,11 +97,6 @@ columns_in_sum s e kappa40 sys stands tame = record {
     scaled x y h = linear (x ∷ y ∷ []) (h ⊠ natural (2 ^ 64) 1) (hlevel claims) refl
 
 -- ---- a pair
-
-one_le_eights : (m : ℕ) → whole (pos 1) ≤ℚ power (whole (pos 8)) m
-one_le_eights m =
-    le_trans (le_of_equal (sym (power_one m))) (power_mono m (natural 1 1)
-    (linear [] (natural 7 1) (hlevel claims) refl))
 
 -- without the weights a sum is smaller
 below_weighted : (n : ℕ) (f : ℕ → Fraction) → IsNatural f → sum_to n f ≤ℚ sum_to n (weighted f)

@@ -17,7 +17,7 @@ use Rattle.cell_laws.specs.Pairs.{CoupledPair}
 use Rattle.cell_laws.specs.Tame.{IsTame, IsTamePair}
 use Rattle.linear_system.specs.StoredSystem.{StoredSystem, IsSystem, dim_of, row_of, stored_number}
 use Rattle.linear_system.specs.StoredSystem.{stored_free}
-use Rattle.linear_system.specs.StandsFor.{units, StandsFor, StandsForPair, MatricesStandNear}
+use Rattle.linear_system.specs.StandsFor.{units, StandsFor, StandsForPair, MatricesStandNear, in_units}
 use Rattle.linear_system.specs.StandsFor.{VectorsStandNear}
 use Rattle.step_laws.specs.RoundedRuns.{window_bound}
 use Rattle.linear_system.specs.DegreeLimit.{greatest_power}
@@ -33,7 +33,7 @@ use Rattle.step_laws.specs.StoredSteps.{NumbersStandFor, FreeNumbersStandFor}
 use Rattle.step_laws.proofs.StoredSteps.{stored_steps_stay_within_their_radius}
 use Rattle.step_laws.proofs.StoredPairs.{stored_first_halves_stay_within_their_radius}
 use Rattle.step_laws.proofs.StoredPairs.{stored_second_halves_stay_within_their_radius}
-use Rattle.taylor_step.specs.Enclosures.{in_units, Encloses, EnclosesFirst, EnclosesSecond}
+use Rattle.taylor_step.specs.Enclosures.{Encloses, EnclosesFirst, EnclosesSecond}
 use Rattle.taylor_step.specs.RoundedRun.{IsRoundedValue}
 use Rattle.taylor_step.proofs.Fits.{coupling_total}
 use Rattle.taylor_step.proofs.Scaled.{number_beyond, no_units, unit}

@@ -6,13 +6,10 @@ use Rattle.std.specs.Prelude.{slice_index_or}
 use Rattle.std.proofs.Common.{ap, sym, ◌∙◌, arith, subst, lit≤}
 use Rattle.std.specs.List.{list_all}
 use mathlib.Core.Quot.{sound}
-use Rattle.frac_laws.specs.Fraction.{Fraction, over, whole, size, ◌+ℚ◌, ◌*ℚ◌, ◌-ℚ◌, ◌≤ℚ◌, opposite}
+use Rattle.frac_laws.specs.Fraction.{over, whole, size, ◌+ℚ◌, ◌*ℚ◌, ◌-ℚ◌, opposite}
 use Rattle.frac_laws.specs.Fraction.{is_not_negative, greater}
 use Rattle.frac_laws.specs.Lists.{number_at, vector_at, matrix_at}
 use Rattle.frac_laws.specs.Norms.{Sup, Sum}
-use Rattle.frac_laws.proofs.FractionTerms.{ring, terms}
-use Rattle.frac_laws.proofs.Linear.{natural}
-use Rattle.frac_laws.proofs.Norms.{size_zero}
 use Rattle.cell_laws.specs.Samples.{backward_system, forward_system, second_system, sample_pair}
 use Rattle.cell_laws.specs.Systems.{System}
 use Rattle.cell_laws.specs.Tame.{IsTame}
@@ -21,9 +18,11 @@ use Rattle.linear_system.specs.Setting.{is_same_place}
 use Rattle.linear_system.specs.StandsFor.{units, MatricesStandNear, VectorsStandNear, StandsFor}
 use Rattle.linear_system.specs.StandsFor.{StandsForPair}
 use Rattle.linear_system.specs.StoredSystem.{StoredSystem, dim_of, stored_number, stored_free}
+use Rattle.linear_system.proofs.NumbersInUnits.{equal_is_near}
 use Rattle.taylor_step.specs.CanStep.{CanStep, in_sup, in_sum, in_pair}
 use Rattle.taylor_step.specs.ListedNumbers.{Entry, listed}
 use Rattle.taylor_step.proofs.Scaled.{no_units}
+use Rattle.whole_laws.proofs.Tests.{passes_both}
 
 abbrev pub backward_entries : List Entry
 backward_entries =
@@ -101,16 +100,6 @@ none_at test (e ∷ entries) row col m h k =
         let s = same_is e.0 e.1 e.2 row col m (sym q) in
         absurd (let t : test row col m ≡ false = rw (s.0, s.1, s.2) n.0 in cc)
     by_place false q n g = g n.1
-
-exact_near : (x y : Fraction) (error : ℕ) → x ≡ y → size (x -ℚ y) ≤ℚ units (pos error)
-exact_near x y error e =
-    rw (e, nothing y, size_zero) (natural error (2 ^ 64))
-  where
-    nothing : (y : Fraction) → y -ℚ y ≡ whole (pos 0)
-    nothing y = ring (y ∷ []) (hlevel terms) refl
-
-two_and : (a b : Bool) → a ≡ true → b ≡ true → (a && b) ≡ true
-two_and a b h k = rw (h, k) refl
 
 late : (m : ℕ) → nat_le 2 (suc (suc m)) ≡ true
 late m = grind arith
@@ -240,7 +229,7 @@ backward_matrices_near : (error : ℕ) (stored : ℕ → ℕ → ℕ → ℤ)
     → ((row col m : ℕ) → row < 2 → col < 2 → stored row col m ≡ listed backward_entries (row) (col) m)
     → MatricesStandNear error 2 stored backward_system.matrices
 backward_matrices_near error stored h = record {
-  near = λ row col m b c. exact_near _ _ error (backward_matrices_equal m row col b c ∙ ap units
+  near = λ row col m b c. equal_is_near _ _ error (backward_matrices_equal m row col b c ∙ ap units
       (sym (h row col m b c)));
   rows = backward_rows;
   columns = backward_columns;
@@ -263,7 +252,7 @@ backward_vectors_near : (stored : ℕ → ℕ → ℤ) → ((row m : ℕ) → ro
     → stored row m ≡ listed backward_entries (row) 2 m)
     → VectorsStandNear 3 2 stored backward_system.free
 backward_vectors_near stored h = record {
-  near = λ row m b. exact_near _ _ 3 (backward_vectors_equal m row b ∙ ap units (sym (h row m b)));
+  near = λ row m b. equal_is_near _ _ 3 (backward_vectors_equal m row b ∙ ap units (sym (h row m b)));
   rows = backward_free_rows;
   no_more = λ row m b. backward_free_no_more m row b;
 }
@@ -293,7 +282,7 @@ forward_matrices_near : (error : ℕ) (stored : ℕ → ℕ → ℕ → ℤ)
     → ((row col m : ℕ) → row < 2 → col < 2 → stored row col m ≡ listed forward_entries (row) (col) m)
     → MatricesStandNear error 2 stored forward_system.matrices
 forward_matrices_near error stored h = record {
-  near = λ row col m b c. exact_near _ _ error (forward_matrices_equal m row col b c ∙ ap units
+  near = λ row col m b c. equal_is_near _ _ error (forward_matrices_equal m row col b c ∙ ap units
       (sym (h row col m b c)));
   rows = forward_rows;
   columns = forward_columns;
@@ -325,7 +314,7 @@ first_matrices_near : (error : ℕ) (stored : ℕ → ℕ → ℕ → ℤ)
     → ((row col m : ℕ) → row < 2 → col < 2 → stored row col m ≡ listed pair_entries (row) (col) m)
     → MatricesStandNear error 2 stored backward_system.matrices
 first_matrices_near error stored h = record {
-  near = λ row col m b c. exact_near _ _ error (first_matrices_equal m row col b c ∙ ap units
+  near = λ row col m b c. equal_is_near _ _ error (first_matrices_equal m row col b c ∙ ap units
       (sym (h row col m b c)));
   rows = backward_rows;
   columns = backward_columns;
@@ -347,7 +336,7 @@ first_vectors_near : (stored : ℕ → ℕ → ℤ) → ((row m : ℕ) → row <
     → stored row m ≡ listed pair_entries (row) 4 m)
     → VectorsStandNear 3 2 stored backward_system.free
 first_vectors_near stored h = record {
-  near = λ row m b. exact_near _ _ 3 (first_vectors_equal m row b ∙ ap units (sym (h row m b)));
+  near = λ row m b. equal_is_near _ _ 3 (first_vectors_equal m row b ∙ ap units (sym (h row m b)));
   rows = backward_free_rows;
   no_more = λ row m b. backward_free_no_more m row b;
 }
@@ -364,14 +353,14 @@ second_matrices_equal zero (suc zero) (suc (suc col)) b c = absurd (omega arith)
 second_matrices_equal zero (suc (suc row)) col b c = absurd (omega arith)
 second_matrices_equal (suc m) row col b c =
     sym (ap units (none_at (λ i j k. nat_le 2 i && (nat_le 2 j && nat_le 1 k)) pair_entries (2 + row)
-    (2 + col) (suc m) refl (two_and _ _ (from_two row) (two_and _ _ (from_two col) (later m)))) ∙
+    (2 + col) (suc m) refl (passes_both _ _ (from_two row) (passes_both _ _ (from_two col) (later m)))) ∙
     no_units)
 
 second_matrices_near : (error : ℕ) (stored : ℕ → ℕ → ℕ → ℤ)
     → ((row col m : ℕ) → row < 2 → col < 2 → stored row col m ≡ listed pair_entries (2 + row) (2 + col) m)
     → MatricesStandNear error 2 stored second_system.matrices
 second_matrices_near error stored h = record {
-  near = λ row col m b c. exact_near _ _ error (second_matrices_equal m row col b c ∙ ap units
+  near = λ row col m b c. equal_is_near _ _ error (second_matrices_equal m row col b c ∙ ap units
       (sym (h row col m b c)));
   rows = second_rows;
   columns = second_columns;
@@ -385,13 +374,13 @@ second_vectors_equal zero (suc zero) b = sound refl
 second_vectors_equal zero (suc (suc row)) b = absurd (omega arith)
 second_vectors_equal (suc m) row b =
     sym (ap units (none_at (λ i j k. nat_le 2 i && (nat_le 2 j && nat_le 1 k)) pair_entries (2 + row) 4
-    (suc m) refl (two_and _ _ (from_two row) (later m))) ∙ no_units)
+    (suc m) refl (passes_both _ _ (from_two row) (later m))) ∙ no_units)
 
 second_vectors_near : (stored : ℕ → ℕ → ℤ) → ((row m : ℕ) → row < 2
     → stored row m ≡ listed pair_entries (2 + row) 4 m)
     → VectorsStandNear 3 2 stored second_system.free
 second_vectors_near stored h = record {
-  near = λ row m b. exact_near _ _ 3 (second_vectors_equal m row b ∙ ap units (sym (h row m b)));
+  near = λ row m b. equal_is_near _ _ 3 (second_vectors_equal m row b ∙ ap units (sym (h row m b)));
   rows = second_free_rows;
   no_more = λ row m b. second_free_no_more m row b;
 }
@@ -421,7 +410,7 @@ coupling_matrices_near : (error : ℕ) (stored : ℕ → ℕ → ℕ → ℤ)
     → ((row col m : ℕ) → row < 2 → col < 2 → stored row col m ≡ listed pair_entries (2 + row) (col) m)
     → MatricesStandNear error 2 stored sample_pair.coupling
 coupling_matrices_near error stored h = record {
-  near = λ row col m b c. exact_near _ _ error (coupling_matrices_equal m row col b c ∙ ap units
+  near = λ row col m b c. equal_is_near _ _ error (coupling_matrices_equal m row col b c ∙ ap units
       (sym (h row col m b c)));
   rows = coupling_rows;
   columns = coupling_columns;
@@ -459,7 +448,7 @@ fed_vectors_near : (stored : ℕ → ℕ → ℤ) → ((row m : ℕ) → row < 2
     → stored row m ≡ listed forward_entries row 2 m)
     → VectorsStandNear 3 2 stored fed_system.free
 fed_vectors_near stored h = record {
-  near = λ row m b. exact_near _ _ 3 (fed_vectors_equal m row b ∙ ap units (sym (h row m b)));
+  near = λ row m b. equal_is_near _ _ 3 (fed_vectors_equal m row b ∙ ap units (sym (h row m b)));
   rows = backward_free_rows;
   no_more = λ row m b. backward_free_no_more m row b;
 }
@@ -487,7 +476,7 @@ fed_stands s d h = record {
 no_feedback : (row col m : ℕ) → row < 2 → 2 ≤ col → col < 4 → listed pair_entries row col m ≡ pos 0
 no_feedback row col m b c d =
     none_at (λ i j k. nat_lt i 2 && (nat_le 2 j && nat_lt j 4)) pair_entries row col m refl
-    (two_and _ _ (below row 2 b) (two_and _ _ (at_most 2 col c) (below col 4 d)))
+    (passes_both _ _ (below row 2 b) (passes_both _ _ (at_most 2 col c) (below col 4 d)))
   where
     below : (i n : ℕ) → i < n → nat_lt i n ≡ true
     below i n h = grind arith
@@ -528,13 +517,13 @@ still_stands : (s : StoredSystem) → dim_of s ≡ 1 → Has s [] → StandsFor 
 still_stands s d h = record {
   dimension = sym d;
   matrices = record {
-    near = λ row col m b c. exact_near _ _ 1 (sym (ap units (h row col m) ∙ no_units));
+    near = λ row col m b c. equal_is_near _ _ 1 (sym (ap units (h row col m) ∙ no_units));
     rows = λ m. omega arith;
     columns = λ m row. omega arith;
     no_more = λ row col m b. refl;
   };
   free = record {
-    near = λ row m b. exact_near _ _ 3 (sym (ap units (h row (dim_of s) m) ∙ no_units));
+    near = λ row m b. equal_is_near _ _ 3 (sym (ap units (h row (dim_of s) m) ∙ no_units));
     rows = λ m. omega arith;
     no_more = λ row m b. refl;
   };

@@ -8,12 +8,14 @@ use mathlib.Core.Path.{ap₂}
 use Rattle.taylor_step.specs.WholeRun.{strip}
 use Rattle.fixed_num.specs.Products.{sum_of_products}
 use Rattle.linear_system.specs.StoredSystem.{StoredRow, number_in_row, place_of, AreDistinct, also}
+use Rattle.linear_system.proofs.Columns.{place_of-at_most}
 use Rattle.frac_laws.proofs.FractionTerms.{ring, terms}
 use Rattle.taylor_step.proofs.SumForms.{sums_equal}
 use Rattle.frac_laws.proofs.Sums.{sum_to_zero, sum_to_first}
 use Rattle.frac_laws.proofs.Quotients.{whole_mul, whole_add}
 use Rattle.frac_laws.specs.Fraction.{Fraction, whole, ◌+ℚ◌, ◌*ℚ◌}
 use Rattle.frac_laws.specs.Sums.{sum_to}
+use Rattle.whole_laws.proofs.Tests.{same_is, other_is_not}
 
 -- the number held for a column, 0 where it has no place
 pub held : List ℕ → List ℤ → ℕ → ℤ
@@ -26,12 +28,6 @@ pub spread : List ℕ → List ℤ → (ℕ → Fraction) → Fraction
 spread [] ns x = whole (pos 0)
 spread (c ∷ cs) [] x = whole (pos 0)
 spread (c ∷ cs) (n ∷ ns) x = whole n *ℚ x c +ℚ spread cs ns x
-
-same : (c : ℕ) → nat_eq c c ≡ true
-same c = grind arith
-
-other : (c j : ℕ) → (c ≡ j → ⊥) → nat_eq c j ≡ false
-other c j h = grind arith
 
 nothing_held : (cs : List ℕ) (ns : List ℤ) (j : ℕ) → place_of cs j ≡ length cs → held cs ns j ≡ pos 0
 unfolding held
@@ -53,13 +49,13 @@ sum_changed : (d c : ℕ) (n : ℤ) (f : ℕ → ℤ) (x : ℕ → Fraction) →
     (λ j. whole (f j) *ℚ x j)
 sum_changed zero c n f x h e = absurd (omega arith)
 sum_changed (suc d) c n f x h e = elim (last_or c d h) [
-  | inl b ↦ (let o : nat_eq c d ≡ false = other c d (λ q. absurd (omega arith)) in ap₂
+  | inl b ↦ (let o : nat_eq c d ≡ false = other_is_not c d (λ q. absurd (omega arith)) in ap₂
       (λ s t. s +ℚ whole (cond t n (f d)) *ℚ x d) (sum_changed d c n f x b e) o ∙ ring
       ((whole n *ℚ x c) ∷ sum_to d (λ j. whole (f j) *ℚ x j) ∷ whole (f d) ∷ x d ∷ []) (hlevel terms) refl)
   | inr q ↦ (let s : sum_to d (λ j. whole (cond (nat_eq c j) n (f j)) *ℚ x j) ≡ sum_to d
       (λ j. whole (f j) *ℚ x j) = sums_equal d _ _ (λ j b. ap (λ t. whole (cond t n (f j)) *ℚ x j)
-      (other c j (λ r. absurd (omega arith)))) in
-      let t : nat_eq c d ≡ true = rw (← q) (same c) in let z : f d ≡ pos 0 = rw (← q) e in
+      (other_is_not c j (λ r. absurd (omega arith)))) in
+      let t : nat_eq c d ≡ true = rw (← q) (same_is c) in let z : f d ≡ pos 0 = rw (← q) e in
       ap₂ (λ u v. u +ℚ whole (cond v n (f d)) *ℚ x d) s t ∙ ap
       (λ j. sum_to d (λ j. whole (f j) *ℚ x j) +ℚ whole n *ℚ x j) (sym q) ∙ ring
       (whole n ∷ x c ∷ x d ∷ sum_to d (λ j. whole (f j) *ℚ x j) ∷ []) (hlevel terms) refl ∙ ap
@@ -139,14 +135,6 @@ held_is (c ∷ cs) (n ∷ ns) j = cases (nat_eq c j) (held_is cs ns j)
     cases true g = rw (zero_or (length cs)) refl
     cases false g = rw (sucs (place_of cs j) (length cs)) g
 
-place_le : (cs : List ℕ) (j : ℕ) → place_of cs j ≤ length cs
-place_le [] j = omega arith
-place_le (c ∷ cs) j = cases (nat_eq c j) (place_le cs j)
-  where
-    cases : (b : Bool) → place_of cs j ≤ length cs → cond b 0 (suc (place_of cs j)) ≤ suc (length cs)
-    cases true g = omega arith
-    cases false g = omega arith
-
 at_block : (cs : List ℕ) (ns : List ℤ) (m q : ℕ) → q < length cs
     → slice_index_or (block cs ns m) q (pos 0) ≡ slice_index_or ns (m * length cs + q) (pos 0)
 at_block cs ns zero q h = let e : 0 * length cs + q ≡ q = omega arith in rw e (first ns)
@@ -179,7 +167,7 @@ row_sum d r p n a l = by_powers r.columns r.numbers p n l ∙ sums_equal n _ _
 
     entry : (m j : ℕ) → held r.columns (block r.columns r.numbers m) j ≡ number_in_row r j m
     entry m j = held_is r.columns (block r.columns r.numbers m) j ∙ elim
-        (below (place_of r.columns j) (length r.columns) (place_le r.columns j)) [
+        (below (place_of r.columns j) (length r.columns) (place_of-at_most r.columns j)) [
           | inl e ↦ rw e refl
           | inr h ↦ ap (λ z. cond (nat_eq (place_of r.columns j) (length r.columns)) (pos 0) z)
               (at_block r.columns r.numbers m (place_of r.columns j) h)

@@ -1,5 +1,5 @@
 -- The greatest power at which a number is stored, from the numbers of the rows as they stand in memory.
-use Rattle.std.specs.Prelude.{◌≡◌, ℕ, zero, suc, ◌+◌, ◌*◌, ◌/◌, ◌%◌, ◌<◌, ◌≤◌, ◌⊎◌, ◌&&◌, ℤ, max, pos, List, []}
+use Rattle.std.specs.Prelude.{◌≡◌, ℕ, zero, suc, ◌+◌, ◌*◌, ◌/◌, ◌%◌, ◌<◌, ◌≤◌, ◌⊎◌, ℤ, max, pos, List, []}
 use Rattle.std.specs.Prelude.{◌∷◌, refl, length, Bool, true, false, cond, nat_eq, unsigned_abs, slice_index_or}
 use Rattle.std.proofs.Common.{ap, sym, ◌∙◌, arith, inl, inr}
 use Rattle.std.proofs.lemmas.Int.{ints, to_z-of_z}
@@ -8,9 +8,11 @@ use mir.Syntax.{w64}
 use Rattle.std.proofs.lemmas.Bool.{cases_lt}
 use Rattle.std.proofs.lemmas.Nat.{mul-le}
 use Rattle.std.proofs.Math.Nat.{div-mul-le_self, le-max_left, le-max_right}
+use Rattle.whole_laws.specs.Whole.{holds_below}
+use Rattle.whole_laws.proofs.Tests.{all_below_hold, holds_at_each}
 use Rattle.linear_system.specs.StoredSystem.{StoredSystem, StoredRow, IsSystem, AreDistinct, also, dim_of, row_of}
 use Rattle.linear_system.specs.StoredSystem.{place_of, number_in_row, stored_number}
-use Rattle.linear_system.specs.DegreeLimit.{holds_below, is_empty_at, greatest_power, greatest_power_to}
+use Rattle.linear_system.specs.DegreeLimit.{is_empty_at, greatest_power, greatest_power_to}
 use Rattle.taylor_step.specs.Stops.{IsZeroFrom}
 use Rattle.taylor_step.proofs.Scaled.{number_beyond}
 
@@ -31,25 +33,6 @@ pub zero_longer : (numbers : List ℤ) (a b columns : ℕ) → a ≤ b → IsZer
 zero_longer numbers a b columns h zeros k l = zeros k
     (let e : (a + 1) * columns ≤ (b + 1) * columns = mul-le (a + 1) columns (b + 1) columns (omega arith) (omega arith)
     in omega (arith, e, l))
-
--- tests that hold below n
-pub at_each : (n : ℕ) (test : ℕ → Bool) → holds_below n test ≡ true → (k : ℕ) → k < n → test k ≡ true
-at_each zero test e k b = absurd (omega arith)
-at_each (suc n) test e k b =
-    by_both (holds_below n test) (test n) refl refl (λ h c. at_each n test h k c) e
-  where
-    by_both : (x y : Bool) → x ≡ holds_below n test → y ≡ test n → (holds_below n test ≡ true → k < n → test k ≡ true)
-        → x && y ≡ true → test k ≡ true
-    by_both true true ex ey g e = elim (cases_lt k n) [
-      | inl c ↦ g (sym ex) c
-      | inr c ↦ (let q : k ≡ n = omega arith in ap test q) ∙ sym ey
-    ]
-    by_both true false ex ey g e = absurd (let z : false ≡ true = e in cc)
-    by_both false y ex ey g e = absurd (let z : false ≡ true = e in cc)
-
-pub all_hold : (n : ℕ) (test : ℕ → Bool) → ((k : ℕ) → k < n → test k ≡ true) → holds_below n test ≡ true
-all_hold zero test h = refl
-all_hold (suc n) test h = rw (all_hold n test (λ k b. h k (omega arith)), h n (omega arith)) refl
 
 -- a place's column has that place
 pub place_of-column : {bound : ℕ} (cs : List ℕ) (p : ℕ) → AreDistinct bound cs → p < length cs
@@ -130,14 +113,14 @@ zeros_above r t dim d some low none k b =
 module _ (s : StoredSystem) (m : ℕ) where
   pub empty_at : ((row col : ℕ) → row < dim_of s → col ≤ dim_of s → stored_number s row col m ≡ pos 0)
       → is_empty_at s m ≡ true
-  empty_at h = all_hold (dim_of s) _ (λ row b. all_hold (suc (dim_of s)) _
+  empty_at h = all_below_hold (dim_of s) _ (λ row b. all_below_hold (suc (dim_of s)) _
       (λ col c. let e : stored_number s row col m ≡ pos 0 = h row col b (omega arith) in rw e refl))
 
   pub none_at : is_empty_at s m ≡ true → (row col : ℕ) → row < dim_of s → col ≤ dim_of s
       → stored_number s row col m ≡ pos 0
   none_at h row col b c = zero (stored_number s row col m)
-      (at_each (suc (dim_of s)) (λ col. nat_eq (unsigned_abs (stored_number s row col m)) 0)
-      (at_each (dim_of s) (λ row. holds_below (suc (dim_of s))
+      (holds_at_each (suc (dim_of s)) (λ col. nat_eq (unsigned_abs (stored_number s row col m)) 0)
+      (holds_at_each (dim_of s) (λ row. holds_below (suc (dim_of s))
       (λ col. nat_eq (unsigned_abs (stored_number s row col m)) 0)) h row b) col (omega arith))
     where
       zero : (z : ℤ) → nat_eq (unsigned_abs z) 0 ≡ true → z ≡ pos 0

@@ -3,7 +3,7 @@ use Rattle.std.proofs.Common.{◌≡◌, ℕ, suc, ◌^◌, ◌+◌, ◌*◌, �
 use Rattle.std.proofs.Common.{map, List, [], ◌∷◌, ℤ, pos, negsuc, ◌+ℤ◌, ◌*ℤ◌, refl, ap, sym, ◌∙◌, arith}
 use Rattle.std.proofs.Common.{add-one}
 use Rattle.std.specs.Prelude.{unsigned_abs}
-use Rattle.std.proofs.lemmas.Int.{ints, unsigned_abs-mul}
+use Rattle.std.proofs.lemmas.Int.{unsigned_abs-mul}
 use Rattle.std.proofs.lemmas.List.{get_or_past}
 use Rattle.std.proofs.lemmas.Nat.{shr_below}
 use Rattle.std.proofs.Math.Nat.{zero-div, div-div-eq-div-mul, div-le_self}
@@ -15,6 +15,7 @@ use Rattle.taylor_step.specs.WholeRun.{strip, past, later, coefficient, new_numb
 use Rattle.fixed_num.specs.Products.{sum_of_products, sum_of_sizes}
 use Rattle.frac_laws.specs.Rounding.{floor_of}
 use Rattle.linear_system.specs.StoredSystem.{StoredSystem, row_of, dim_of, no_row, IsSystem}
+use Rattle.whole_laws.proofs.Numbers.{size_of_sum}
 
 map_same : (cs : List ℕ) (f g : ℕ → ℤ) → ((p : ℕ) → p < length cs → f (get_or cs p 0) ≡ g (get_or cs p 0))
     → map f cs ≡ map g cs
@@ -83,15 +84,12 @@ history_more s mid newest k old new sys room below history is_new free written i
           (ap (λ j. new_number (row_of s j) s.degree (past s mid k) k) q)
     ]
 
-pub size-add : (a b : ℤ) → unsigned_abs (a +ℤ b) ≤ unsigned_abs a + unsigned_abs b
-size-add a b = grind (arith, ints)
-
 pub size-products : (xs vs : List ℤ) → unsigned_abs (sum_of_products xs vs) ≤ sum_of_sizes xs vs
 size-products [] vs = omega arith
 size-products (x ∷ xs) [] = omega arith
 size-products (x ∷ xs) (v ∷ vs) = omega (
   arith,
-  size-add (x *ℤ v) (sum_of_products xs vs),
+  size_of_sum (x *ℤ v) (sum_of_products xs vs),
   unsigned_abs-mul x
       v,
   size-products xs vs,
@@ -140,7 +138,7 @@ new_small s mid newest k fit below long is_new free i = by_place (place i (dim_o
 
 pub sum_small : (a b : ℤ) (k : ℕ) → unsigned_abs a ≤ 2 ^ 66 + k * 2 ^ 63 → unsigned_abs b ≤ 2 ^ 62
     → unsigned_abs (a +ℤ b) ≤ 2 ^ 66 + (k + 1) * 2 ^ 63
-sum_small a b k h j = omega (arith, size-add a b)
+sum_small a b k h j = omega (arith, size_of_sum a b)
 
 pub sums_small : (mid mid' nx : List ℤ) (k : ℕ) → length mid' ≡ length mid
     → ((i : ℕ) → i < length mid → get_or mid' i (pos 0) ≡ get_or mid i (pos 0) +ℤ get_or nx i (pos 0))

@@ -1,5 +1,5 @@
 -- What a step promises: its numbers enclose the Taylor values of every start that the old numbers enclosed.
-use Rattle.std.specs.Prelude.{ℕ, ◌+◌, ◌≤◌, ℤ, pos, List, map, take, drop}
+use Rattle.std.specs.Prelude.{ℕ, ◌+◌, ◌≤◌, ℤ, pos, List, take, drop}
 use Rattle.frac_laws.specs.Fraction.{Fraction, whole, ◌*ℚ◌, ◌≤ℚ◌}
 use Rattle.frac_laws.specs.Ledger.{grow}
 use Rattle.frac_laws.specs.Lists.{Vector}
@@ -7,12 +7,8 @@ use Rattle.frac_laws.specs.Norms.{Norm, Sup}
 use Rattle.cell_laws.specs.ErrorLaws.{distance}
 use Rattle.cell_laws.specs.Pairs.{CoupledPair, second_taylor_value}
 use Rattle.cell_laws.specs.Systems.{System, taylor_value}
-use Rattle.linear_system.specs.StandsFor.{units}
+use Rattle.linear_system.specs.StandsFor.{units, in_units}
 use Rattle.step_laws.specs.StepLaws.{IsStartNear}
-
--- whole numbers of units of 2^-64 as a vector
-abbrev pub in_units : List ℤ → Vector
-in_units numbers = map units numbers
 
 -- the rounding of one step, with what the stored numbers are off and what follows the degree, in units of
 -- 2^-64

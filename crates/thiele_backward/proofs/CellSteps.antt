@@ -21,12 +21,11 @@ use Rattle.model_specs.specs.ValuationRules.{IsAdmissible}
 use Rattle.ledger_laws.proofs.MonthFacts.{admissible_obeys}
 use Rattle.ledger_laws.proofs.GrowthFacts.{radii_small_inside}
 use Rattle.linear_system.specs.DegreeLimit.{IsConstant}
-use Rattle.linear_system.specs.StandsFor.{StandsFor}
+use Rattle.linear_system.specs.StandsFor.{StandsFor, in_units}
 use Rattle.linear_system.specs.StoredSystem.{StoredSystem}
 use Rattle.taylor_step.specs.CanStep.{CanStep, in_sup, AreAtMost}
-use Rattle.taylor_step.specs.Enclosures.{Encloses, in_units}
+use Rattle.taylor_step.specs.Enclosures.{Encloses}
 use Rattle.payment_plan.specs.declared.pattern.Which.{Which}
-use Rattle.payment_plan.specs.declared.pattern.Which.TheVariants.{Benefits, Pattern}
 use Rattle.payment_plan.specs.Payments.{plan_of}
 use Rattle.product_model.specs.Views.{payments_of}
 use Rattle.cell_bounds.specs.ScaledSystems.{scaling, scaled_system}
@@ -34,16 +33,12 @@ use Rattle.product_cells.specs.EachCell.{backward_cell, plan_scaling}
 use Rattle.sweep_laws.specs.ScaledSteps.{next_cell}
 use Rattle.sweep_laws.proofs.Sweeps.{units-order}
 use Rattle.rate_bounds.specs.MonthPay.{plan_named}
+use Rattle.rate_bounds.proofs.PaySteps.{plan_is}
 use Rattle.cell_coeffs.specs.Rows.{cell_at}
 use Rattle.thiele_backward.specs.MonthRuns.{month_values, radius_in, IsNearLumped, HasSome}
 use Rattle.thiele_backward.specs.MonthRuns.{StaysNear, StaysNearWithSpare}
 use Rattle.thiele_backward.proofs.MonthSteps.{four_named, values_within, scaled_fit, tame, steps_on, scaled}
 use Rattle.thiele_backward.proofs.NearNumbers.{mid_most}
-
--- the plans of a product by their names
-pub plan-named : (which : Which) (product : Product) → plan_of which (payments_of product) ≡ plan_named which product
-plan-named Benefits product = refl
-plan-named Pattern product = refl
 
 -- what has a unit to spare is near
 pub near_by_spare : (product : Product) (plan : Plan) (month degree done : ℕ) (old new : List ℤ)
@@ -120,7 +115,7 @@ module _ (which : Which) (product : Product) (month done : ℕ) (admissible : Is
   stands_here g cell s is_scale is_cell stands =
       let P : Plan → Type 0 = λ q. StandsFor s (scaled_system (scaling (scale product plan))
       (thiele_system (backward_cell product q month (next_cell done)))) in
-      subst P (plan-named which product) (rw (is_scale, is_cell) at stands)
+      subst P (plan_is which product) (rw (is_scale, is_cell) at stands)
 
   -- the promise of the step, for this system
   pub answers_here : (s : StoredSystem) (old new : List ℤ) (answered : ℕ) → StandsFor s e
@@ -136,7 +131,7 @@ begins_near _ _ _ _ _ n v from is_start = is_start.near
 pub constant_named : (which : Which) (product p : Product) (month : ℕ) → p ≡ product
     → IsTrue (is_constant_month product (plan_named which product) month)
     → IsTrue (is_constant_month p (plan_of which (payments_of p)) month)
-constant_named which product p month is constant = rw (is, plan-named which product) constant
+constant_named which product p month is constant = rw (is, plan_is which product) constant
 
 -- where nothing varies, the degree is the least one
 module _ (which : Which) (product : Product) (month done : ℕ) (admissible : IsAdmissible product)

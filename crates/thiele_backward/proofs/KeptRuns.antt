@@ -21,6 +21,7 @@ use Rattle.payment_plan.specs.declared.pattern.Which.{Which}
 use Rattle.payment_plan.specs.Payments.{Payments, plan_of}
 use Rattle.product_model.specs.Views.{payments_of}
 use Rattle.rate_bounds.specs.MonthPay.{plan_named}
+use Rattle.rate_bounds.proofs.PaySteps.{plan_is}
 use Rattle.cell_coeffs.specs.Rows.{IsMadeForFirst}
 use Rattle.cell_coeffs.proofs.DateLumps.{lump-found}
 use Rattle.cell_coeffs.proofs.RowSteps.{made_kept}
@@ -28,7 +29,6 @@ use Rattle.thiele_backward.specs.MonthRuns.{IsNearAt, HasSome, EnclosesMonth}
 use Rattle.thiele_backward.specs.Sweeps.{BackwardSweep, begun_sweep, month_earlier, plan_in, values_from}
 use Rattle.thiele_backward.specs.Sweeps.{spare_units, width_of, KeepsRuns}
 use Rattle.thiele_backward.proofs.MonthSteps.{begun_within, four_named}
-use Rattle.thiele_backward.proofs.CellSteps.{plan-named}
 use Rattle.thiele_backward.proofs.LumpedNumbers.{lump_small}
 use Rattle.thiele_backward.proofs.NearNumbers.{mid_most}
 use Rattle.thiele_backward.proofs.StateValues.{zeros_near}
@@ -161,7 +161,7 @@ module _ (s : BackwardSweep) (g rad : ℕ) (system : StoredSystem) (work : ℕ) 
       ≡ lump_at (plan_in s) s.months_left state
   state_lump p lumps is are =
       let here = are ∙ ap (λ (q : Payments). lumps_at q.states (plan_of s.which q) s.months_left) is
-      ∙ ap (λ (plan : Plan). lumps_at (length s.product.states) plan s.months_left) (plan-named s.which s.product) in
+      ∙ ap (λ (plan : Plan). lumps_at (length s.product.states) plan s.months_left) (plan_is s.which s.product) in
       rw here (lump-found (length s.product.states) (plan_in s) s.months_left state inside)
 
 -- numbers that were written through a slice of all of them

@@ -22,7 +22,6 @@ use Rattle.model_specs.specs.Ledgers.{scale, radius}
 use Rattle.model_specs.specs.Runs.{lump_vector}
 use Rattle.whole_laws.proofs.ListsByPlace.{at-list_of, past-list_of}
 use Rattle.ledger_laws.proofs.BoundFacts.{scale_bounds_parts}
-use Rattle.taylor_step.specs.Enclosures.{in_units}
 use Rattle.product_cells.specs.EachCell.{plan_scaling}
 use Rattle.cell_coeffs.specs.Lumps.{units_to}
 use Rattle.cell_coeffs.proofs.DateLumps.{units-lump, lumps_most, few_lumps}
@@ -31,14 +30,16 @@ use Rattle.payment_plan.specs.declared.pattern.Which.{Which}
 use Rattle.payment_plan.specs.Payments.{Payments, plan_of}
 use Rattle.product_model.specs.Views.{payments_of}
 use Rattle.rate_bounds.specs.MonthPay.{plan_named}
-use Rattle.thiele_backward.proofs.CellSteps.{plan-named}
+use Rattle.rate_bounds.proofs.PaySteps.{plan_is}
 use Rattle.model_specs.specs.ValuationRules.{IsAdmissible}
 use Rattle.ledger_laws.proofs.GrowthFacts.{radii_small, radius_back}
 use Rattle.ledger_laws.proofs.MonthFacts.{admissible_obeys}
 use Rattle.taylor_step.specs.CanStep.{AreAtMost}
 use Rattle.thiele_backward.specs.MonthRuns.{IsNearAt, IsNearLumped, HasSome, StaysNearWithSpare, EnclosesMonth}
 use Rattle.thiele_backward.proofs.MonthSteps.{begun_within}
-use Rattle.thiele_backward.proofs.NearNumbers.{at-units, past-units, mid_most}
+use Rattle.thiele_backward.proofs.NearNumbers.{mid_most}
+use Rattle.linear_system.specs.StandsFor.{in_units}
+use Rattle.linear_system.proofs.NumbersInUnits.{at-units, past-units}
 
 -- an amount in units of 2^-64 at the scale 2^g
 over-lump : (z : ℤ) (g : ℕ) → g ≤ 56 → over (z *ℤ pos (2 ^ (64 - g))) (2 ^ 64) ≡ over (pos 1) (2 ^ g) *ℚ whole z
@@ -123,7 +124,7 @@ pub lumps_are : (which : Which) (product : Product) (month : ℕ) (p : Payments)
 lumps_are which product month p lumps is are =
     are ∙ ap (λ (q : Payments). lumps_at q.states (plan_of which q) (month + 1)) is
     ∙ ap (λ k. lumps_at (length product.states) (plan_of which (payments_of product)) k) (add-one month)
-    ∙ ap (λ (plan : Plan). lumps_at (length product.states) plan (suc month)) (plan-named which product)
+    ∙ ap (λ (plan : Plan). lumps_at (length product.states) plan (suc month)) (plan_is which product)
 
 pub lumps_few : (product : Product) (plan : Plan) (date : ℕ) (lumps : List (ℕ × ℤ)) → IsWellFormed product
     → lumps ≡ lumps_at (length product.states) plan date → length lumps ≤ 12

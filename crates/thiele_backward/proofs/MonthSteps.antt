@@ -1,14 +1,10 @@
 -- Each cell of a month is a step of a tame system, from a start of norm at most 1.
-use Rattle.std.specs.Prelude.{◌≡◌, ℕ, zero, suc, pos, ◌+◌, ◌-◌, ◌*◌, ◌^◌, ◌<◌, ◌≤◌, [], ◌∷◌, length}
-use Rattle.std.proofs.Common.{refl, sym, subst, arith, pow_pos}
-use Rattle.frac_laws.specs.Fraction.{Fraction, over, whole, ◌≤ℚ◌}
+use Rattle.std.specs.Prelude.{◌≡◌, ℕ, zero, suc, pos, ◌+◌, ◌-◌, ◌*◌, ◌^◌, ◌<◌, ◌≤◌, length}
+use Rattle.std.proofs.Common.{sym, subst, arith}
+use Rattle.frac_laws.specs.Fraction.{Fraction, whole, ◌≤ℚ◌}
 use Rattle.frac_laws.specs.Lists.{Vector, scale_list, add_lists}
 use Rattle.frac_laws.specs.Norms.{Sup, norm_of_vector}
-use Rattle.frac_laws.proofs.Linear.{linear, claims, natural, ◌⊞◌, ◌⊠◌, ◌·◌}
 use Rattle.frac_laws.proofs.Lengths.{scale_list_fits, add_lists_fits}
-use Rattle.frac_laws.proofs.Norms.{norm-scale_list}
-use Rattle.frac_laws.proofs.Quotients.{inverse}
-use Rattle.frac_laws.proofs.Sizes.{size_of_natural}
 use Rattle.cell_laws.specs.Systems.{System, taylor_value}
 use Rattle.cell_laws.specs.Tame.{IsTame}
 use Rattle.cell_laws.proofs.Dimensions.{taylor_values_keep_dimension}
@@ -38,17 +34,9 @@ use Rattle.moment_laws.proofs.LedgerSteps.{within_scale}
 use Rattle.moment_laws.proofs.RunsFrom.{keeps_ledger_from}
 use Rattle.moment_laws.proofs.ScaledRuns.{taylor_values_scale}
 use Rattle.sweep_laws.specs.ScaledSteps.{next_cell}
+use Rattle.sweep_laws.proofs.ScaledSteps.{scaled_within}
 use Rattle.rate_bounds.specs.MonthPay.{plan_named}
 use Rattle.thiele_backward.specs.MonthRuns.{month_values}
-
--- divided by G, a vector within G is within 1
-scaled_within : (g : ℕ) (v : Vector) → norm_of_vector Sup v ≤ℚ whole (pos (2 ^ g))
-    → norm_of_vector Sup (scale_list (over (pos 1) (2 ^ g)) v) ≤ℚ whole (pos 1)
-scaled_within g v within =
-    let h = over (pos 1) (2 ^ g) in
-    rw (norm-scale_list Sup h v, size_of_natural (natural 1 (2 ^ g)))
-    (linear (norm_of_vector Sup v ∷ h ∷ whole (pos (2 ^ g)) ∷ [])
-    (within ⊠ natural 1 (2 ^ g) ⊞ whole (pos 1) · inverse (2 ^ g) (pow_pos g)) (hlevel claims) refl)
 
 -- values with which a run may begin are within the scale
 pub begun_within : (product : Product) (plan : Plan) (left : ℕ) (v : Vector) → left ≤ product.months

@@ -1,5 +1,5 @@
 -- Whole numbers in units of 2^-64 near a vector.
-use Rattle.std.specs.Prelude.{◌≡◌, ℕ, zero, suc, pos, ◌^◌, ◌<◌, ◌≤◌, ℤ, unsigned_abs, List, [], ◌∷◌, length}
+use Rattle.std.specs.Prelude.{ℕ, pos, ◌^◌, ◌≤◌, ℤ, unsigned_abs, List, [], ◌∷◌, length}
 use Rattle.std.specs.Prelude.{slice_index_or}
 use Rattle.std.proofs.Common.{refl, ap, arith, inl, inr}
 use Rattle.std.proofs.lemmas.Bool.{cases_lt}
@@ -11,13 +11,15 @@ use Rattle.frac_laws.proofs.Linear.{linear, claims, ◌⊞◌}
 use Rattle.frac_laws.proofs.Order.{le_trans, le_of_equal}
 use Rattle.frac_laws.proofs.Norms.{number_below_norm}
 use Rattle.frac_laws.proofs.Sizes.{size_add, size-opposite}
+use Rattle.frac_laws.proofs.SizeFacts.{abs_of_size}
 use Rattle.cell_laws.specs.ErrorLaws.{distance}
 use Rattle.taylor_step.specs.CanStep.{AreAtMost}
-use Rattle.taylor_step.specs.Enclosures.{in_units}
 use Rattle.sweep_laws.specs.SweepLaws.{units}
 use Rattle.sweep_laws.proofs.Sweeps.{units-order}
 use Rattle.sweep_laws.proofs.PairSweeps.{number_near}
-use Rattle.cell_coeffs.proofs.Near.{abs_of_size}
+use Rattle.whole_laws.proofs.Members.{past_end}
+use Rattle.linear_system.proofs.NumbersInUnits.{at-units}
+use Rattle.linear_system.specs.StandsFor.{in_units}
 
 -- numbers near one of at most 1 in size fit
 number_most : (x : Fraction) (z : ℤ) → size x ≤ℚ whole (pos 1)
@@ -29,28 +31,11 @@ number_most x z small near =
     (rw (size-opposite (x -ℚ over z (2 ^ 64)))
     (linear (size x ∷ size (x -ℚ over z (2 ^ 64)) ∷ []) (near ⊞ small) (hlevel claims) refl))))
 
--- the number of a state, and none past the last one
-pub at-units : (mid : List ℤ) (i : ℕ) → i < length mid
-    → number_at (in_units mid) i ≡ over (slice_index_or mid i (pos 0)) (2 ^ 64)
-at-units [] i b = absurd (omega arith)
-at-units (z ∷ mid) zero b = refl
-at-units (z ∷ mid) (suc i) b = at-units mid i (omega arith)
-
-pub past-units : (mid : List ℤ) (i : ℕ) → length mid ≤ i → number_at (in_units mid) i ≡ whole (pos 0)
-past-units [] i past = refl
-past-units (z ∷ mid) zero past = absurd (omega arith)
-past-units (z ∷ mid) (suc i) past = past-units mid i (omega arith)
-
-past_mid : (mid : List ℤ) (i : ℕ) → length mid ≤ i → slice_index_or mid i (pos 0) ≡ pos 0
-past_mid [] i past = refl
-past_mid (z ∷ mid) zero past = absurd (omega arith)
-past_mid (z ∷ mid) (suc i) past = past_mid mid i (omega arith)
-
 pub mid_most : (y : Vector) (mid : List ℤ) (radius : ℕ) → norm_of_vector Sup y ≤ℚ whole (pos 1)
     → distance Sup y (in_units mid) ≤ℚ units radius → radius ≤ 2 ^ 45 → AreAtMost (2 ^ 65) mid
 mid_most y mid radius small near few i = elim (cases_lt i (length mid)) [
   | inl b ↦ number_most (number_at y i) (slice_index_or mid i (pos 0)) (le_trans (number_below_norm Sup y i) small)
       (rw (← at-units mid i b)
       (le_trans (number_near y (in_units mid) i) (le_trans near (units-order radius (2 ^ 45) few))))
-  | inr past ↦ rw (past_mid mid i past) (omega arith)
+  | inr past ↦ rw (past_end mid i past) (omega arith)
 ]

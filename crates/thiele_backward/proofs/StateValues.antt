@@ -3,7 +3,6 @@ use Rattle.std.specs.Prelude.{◌≡◌, ℕ, pos, ◌-◌, ◌^◌, ◌<◌, �
 use Rattle.std.specs.Prelude.{slice_index_or}
 use Rattle.std.proofs.Common.{refl, ap, sym, ◌∙◌, arith, inl, inr, pow_pos}
 use Rattle.std.proofs.lemmas.Bool.{cases_lt}
-use Rattle.std.proofs.lemmas.List.{get_or-replicate, length-replicate}
 use Rattle.frac_laws.specs.Fraction.{Fraction, over, whole, size, ◌-ℚ◌, ◌*ℚ◌, ◌≤ℚ◌}
 use Rattle.frac_laws.specs.Lists.{Vector, number_at, scale_list, subtract_lists}
 use Rattle.frac_laws.specs.Norms.{Sup, norm_of_vector}
@@ -21,13 +20,12 @@ use Rattle.model_specs.specs.Ledgers.{radius, bound_before_term}
 use Rattle.model_specs.specs.Runs.{first_before_term}
 use Rattle.model_laws.proofs.CellEntries.{list-length}
 use Rattle.whole_laws.proofs.ListsByPlace.{at-list_of, past-list_of}
-use Rattle.product_cells.proofs.ProductCurves.{over_none}
 use Rattle.product_cells.specs.EachCell.{plan_scaling}
-use Rattle.taylor_step.specs.Enclosures.{in_units}
 use Rattle.sweep_laws.proofs.PairSweeps.{number_near}
 use Rattle.thiele_backward.specs.MonthRuns.{AreWithin, IsNearAt}
-use Rattle.thiele_backward.proofs.NearNumbers.{at-units, past-units}
 use Rattle.thiele_backward.proofs.SweepSteps.{radius_some}
+use Rattle.linear_system.proofs.NumbersInUnits.{zeros_none, at-units}
+use Rattle.linear_system.specs.StandsFor.{in_units}
 
 pub state_near : (product : Product) (plan : Plan) (rad : ℕ) (values : Vector) (mid : List ℤ) (state : ℕ)
     → AreWithin product plan rad values mid → state < length mid
@@ -62,13 +60,6 @@ none_at : (product : Product) (plan : Plan) (n i : ℕ)
 none_at product plan n i = elim (cases_lt i (length product.states)) [
   | inl b ↦ at-list_of (length product.states) (λ k. whole (pos 0)) i (whole (pos 0)) b
   | inr past ↦ past-list_of (length product.states) (λ k. whole (pos 0)) i (whole (pos 0)) past
-]
-
-zeros_none : (count i : ℕ) → number_at (in_units (replicate count (pos 0))) i ≡ whole (pos 0)
-zeros_none count i = elim (cases_lt i count) [
-  | inl b ↦ at-units (replicate count (pos 0)) i (rw (length-replicate count (pos 0)) b)
-      ∙ ap (λ (z : ℤ). over z (2 ^ 64)) (get_or-replicate count i (pos 0) (pos 0) b) ∙ over_none (2 ^ 64)
-  | inr past ↦ past-units (replicate count (pos 0)) i (rw (length-replicate count (pos 0)) past)
 ]
 
 pub zeros_near : (product : Product) (plan : Plan) (n : ℕ)

@@ -11,11 +11,11 @@ use Rattle.model_specs.specs.Growth.{kappa40}
 use Rattle.model_specs.specs.Ledgers.{grow_cells, radius}
 use Rattle.model_specs.specs.Runs.{lump_vector}
 use Rattle.model_specs.specs.Systems.{thiele_system}
-use Rattle.taylor_step.specs.Enclosures.{in_units}
 use Rattle.product_cells.specs.EachCell.{backward_cell, plan_scaling}
 use Rattle.moment_laws.specs.CellRuns.{cells_back}
 use Rattle.moment_laws.specs.RunsFrom.{BeginsWithinLedger}
 use Rattle.sweep_laws.specs.SweepLaws.{units}
+use Rattle.linear_system.specs.StandsFor.{in_units}
 
 -- the exact values after some cells of a month, in minor units: from v at the month's end, with that date's lumps
 abbrev pub month_values : Product → Plan → (n month : ℕ) → Vector → ℕ → Vector

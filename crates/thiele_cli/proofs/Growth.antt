@@ -1,10 +1,9 @@
 -- How told bytes grow piece by piece.
 use Rattle.std.proofs.Common.{◌≡◌, ℕ, zero, suc, ◌+◌, ◌-◌, ◌≤◌, List, [], ◌∷◌, take, drop, Option, refl}
 use Rattle.std.proofs.Common.{ap, arith}
-use Rattle.std.proofs.Math.Seq.{take-add}
-use Rattle.std.proofs.KnownBytes.{Appends-trans}
 use Rattle.std.specs.Io.KnownBytes.{Appends}
 use Rattle.io_ports.specs.Growth.{AppendsPrefix}
+use Rattle.io_ports.proofs.Growth.{Appends-take-add}
 
 -- a prefix of a prefix is one of the whole
 pub take_of_take : (n m : ℕ) (xs : List ℕ) → (k : ℕ) × (take n (take m xs) ≡ take k xs)
@@ -13,18 +12,12 @@ take_of_take (suc n) zero xs = (0, refl)
 take_of_take (suc n) (suc m) [] = (0, refl)
 take_of_take (suc n) (suc m) (x ∷ xs) = let inner = take_of_take n m xs in (suc inner.0, ap (λ ys. x ∷ ys) inner.1)
 
--- the text up to a piece, and the piece
-pub grows : (a b c : Option (List ℕ)) (text : List ℕ) (at size : ℕ) → Appends a b (take at text)
-    → Appends b c (take size (drop at text)) → Appends a c (take (at + size) text)
-grows a b c text at size before piece = rw (take-add at size text)
-    (Appends-trans a b c (take at text) (take size (drop at text)) before piece)
-
 -- the text up to a piece, and a prefix of the piece
 pub grows_by_prefix : (a b c : Option (List ℕ)) (text : List ℕ) (at size : ℕ) → Appends a b (take at text)
     → AppendsPrefix b c (take size (drop at text)) → AppendsPrefix a c text
 grows_by_prefix a b c text at size before part =
     let short = take_of_take part.0 size (drop at text) in
-    (at + short.0, grows a b c text at short.0 before (rw (← short.1) part.1))
+    (at + short.0, Appends-take-add a b c text at short.0 before (rw (← short.1) part.1))
 
 -- the same, where the piece is from `at` to `end`
 pub grows_to : (a b c : Option (List ℕ)) (text : List ℕ) (at end : ℕ) → at ≤ end
@@ -32,4 +25,4 @@ pub grows_to : (a b c : Option (List ℕ)) (text : List ℕ) (at end : ℕ) → 
     → Appends a c (take end text)
 grows_to a b c text at end le before piece =
     let there : at + (end - at) ≡ end = omega arith in
-    rw there at (grows a b c text at (end - at) before piece)
+    rw there at (Appends-take-add a b c text at (end - at) before piece)

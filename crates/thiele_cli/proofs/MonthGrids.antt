@@ -8,7 +8,6 @@ use Rattle.fixed_interval.specs.Printing.{LiesBetween}
 use Rattle.model_specs.specs.Product.{Product}
 use Rattle.model_specs.specs.Payments.{payment_plan}
 use Rattle.model_specs.specs.Runs.{month_grid_reserve}
-use Rattle.whole_laws.proofs.Extremes.{All-list_of}
 use Rattle.thiele_backward.specs.Results.{AreReserves}
 use Rattle.grid_law.specs.MonthReserves.{HoldMonthGrid}
 use Rattle.report_columns.specs.declared.note.What.TheVariants as what
@@ -20,6 +19,7 @@ use Rattle.thiele_cli.specs.declared.answer.Answer.TheVariants as answer
 use Rattle.thiele_cli.specs.declared.question.Question.TheVariants.{Reserves}
 use Rattle.thiele_cli.specs.MonthGrids.{HoldsByMonths}
 use Rattle.thiele_cli.specs.Replies.{AnswersQuestion}
+use Rattle.whole_laws.proofs.ListsByPlace.{All-list_of}
 
 -- a place of a table is a date and a state
 date_is_asked : (place dates states : ℕ) → 0 < states → place < (dates + 1) * states → place / states ≤ dates

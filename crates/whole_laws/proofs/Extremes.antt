@@ -1,34 +1,16 @@
 -- Bounds on the greatest and the least of a list, and on sums.
-use Rattle.std.specs.Prelude.{◌≡◌, ℕ, zero, suc, ◌<◌, ◌≤◌, max, ℤ, pos, ◌+ℤ◌, ◌≤ℤ◌}
-use Rattle.std.specs.Prelude.{Bool, true, false, ◌&&◌, int_le, All, List, [], ◌∷◌, length, cond, refl}
+use Rattle.std.specs.Prelude.{◌≡◌, ℕ, zero, suc, ◌<◌, ◌≤◌, max, ℤ, pos, ◌+ℤ◌, ◌≤ℤ◌, ◌-◌}
+use Rattle.std.specs.Prelude.{Bool, true, false, All, List, [], ◌∷◌, length, cond, refl}
 use Rattle.std.specs.Prelude.{slice_index_or, int_lt, Option, Some, None, find}
-use Rattle.std.specs.Int.{int_min}
+use Rattle.std.specs.Int.{int_min, int_max}
 use Rattle.std.specs.Prelude.{map, filter}
-use Rattle.std.specs.List.{list_all}
-use Rattle.std.proofs.Common.{arith, ap, inl, inr}
-use Rattle.std.proofs.lemmas.Bool.{false≢true, cases_lt}
+use Rattle.std.proofs.Common.{arith, inl, inr}
+use Rattle.std.proofs.lemmas.Bool.{cases_lt}
 use Rattle.std.proofs.lemmas.Int.{ints, clamps}
 use Rattle.std.proofs.lemmas.List.Elements.{All-nil, All-tail, All-head, All-cons, All-map, All-filter}
 use Rattle.whole_laws.specs.Whole.{list_of, whole_sum, greatest_whole, least_whole}
 use Rattle.whole_laws.specs.Whole.{greatest_natural}
-
--- a test of the order that passes
-pub le_from_test : (a b : ℤ) → int_le a b ≡ true → a ≤ℤ b
-le_from_test a b h = grind (arith, ints)
-
--- both parts of a test that passes
-pub both_pass : (a b : Bool) → (a && b) ≡ true → (a ≡ true) × (b ≡ true)
-both_pass true true h = (refl, refl)
-both_pass true false h = (refl, h)
-both_pass false b h = absurd (false≢true h)
-
--- what all members of a list pass, each passes
-pub each_passes : {A : Type 0} (test : A → Bool) (xs : List A) → list_all test xs ≡ true
-    → All (λ x. test x ≡ true) xs
-each_passes test [] h k d b = absurd (omega arith)
-each_passes test (x ∷ xs) h zero d b = (both_pass (test x) (list_all test xs) h).0
-each_passes test (x ∷ xs) h (suc k) d b =
-    each_passes test xs (both_pass (test x) (list_all test xs) h).1 k d (omega arith)
+use Rattle.whole_laws.proofs.ListsByPlace.{length-list_of, at-list_of}
 
 -- the greatest of natural numbers
 pub greatest_natural_most : (xs : List ℕ) (m : ℕ) → All (λ x. x ≤ m) xs → greatest_natural xs ≤ m
@@ -91,22 +73,6 @@ whole_sum_natural (x ∷ xs) h =
       whole_sum_natural xs (All-tail (λ z. pos 0 ≤ℤ z) x xs h),
     )
 
--- lists by place
-pub length-list_of : {A : Type 0} (n : ℕ) (f : ℕ → A) → length (list_of n f) ≡ n
-length-list_of zero f = refl
-length-list_of (suc n) f = ap (λ k. suc k) (length-list_of n (λ i. f (suc i)))
-
-pub place_of_list : {A : Type 0} (n : ℕ) (f : ℕ → A) (k : ℕ) (d : A) → k < n → slice_index_or (list_of n f) k d ≡ f k
-place_of_list zero f k d b = absurd (omega arith)
-place_of_list (suc n) f zero d b = refl
-place_of_list (suc n) f (suc k) d b = place_of_list n (λ i. f (suc i)) k d (omega arith)
-
-pub All-list_of : {A : Type 0} (P : A → Type 0) (n : ℕ) (f : ℕ → A) → ((i : ℕ) → i < n → P (f i)) → All P (list_of n f)
-All-list_of P zero f h k d b = absurd (omega arith)
-All-list_of P (suc n) f h zero d b = h 0 (omega arith)
-All-list_of P (suc n) f h (suc k) d b =
-    All-list_of P n (λ i. f (suc i)) (λ i c. h (suc i) (omega arith)) k d (omega arith)
-
 -- what each member of a list and 0 have, the greatest and the least have
 greater-has : (P : ℕ → Type 0) (a b : ℕ) → P a → P b → P (max a b)
 greater-has P a b x y =
@@ -121,7 +87,7 @@ greatest_natural-has P (x ∷ xs) none all =
     greater-has P x (greatest_natural xs) (All-head P x xs all)
     (greatest_natural-has P xs none (All-tail P x xs all))
 
-lesser_whole-has : (P : ℤ → Type 0) (a b : ℤ) → P a → P b → P (int_min a b)
+pub lesser_whole-has : (P : ℤ → Type 0) (a b : ℤ) → P a → P b → P (int_min a b)
 lesser_whole-has P a b x y = elim (int_lt b a) as (λ t. P (cond t b a)) [ true ↦ y | false ↦ x ]
 
 pub least_whole-has : (P : ℤ → Type 0) (xs : List ℤ) → P (pos 0) → All P xs → P (least_whole xs)
@@ -174,3 +140,28 @@ part_of_sum f test (x ∷ xs) (suc k) d below passes natural =
   where
     later_part : (a b c : ℤ) → pos 0 ≤ℤ b → a ≤ℤ c → a ≤ℤ (b +ℤ c)
     later_part a b c h k = omega (arith, ints)
+
+-- what stands at a place is at most the greatest
+pub within_greatest : (n : ℕ) (f : ℕ → ℤ) (i : ℕ) → i < n → f i ≤ℤ greatest_whole (list_of n f)
+within_greatest n f i b = rw (at-list_of n f i (pos 0) b) at
+    (greatest_whole_least (list_of n f) i (pos 0) (rw (length-list_of n f) b))
+
+-- a fact of the lesser or the greater of two numbers
+pub greater_whole-has : (P : ℤ → Type 0) (x y : ℤ) → P x → P y → P (int_max x y)
+greater_whole-has P x y hx hy = choose (int_lt y x)
+  where
+    choose : (b : Bool) → P (cond b x y)
+    choose true = hx
+    choose false = hy
+
+pub least_le_left : (x y : ℤ) → int_min x y ≤ℤ x
+least_le_left x y = omega (arith, ints, clamps)
+
+pub least_le_right : (x y : ℤ) → int_min x y ≤ℤ y
+least_le_right x y = omega (arith, ints, clamps)
+
+pub left_le_greatest : (x y : ℤ) → x ≤ℤ int_max x y
+left_le_greatest x y = omega (arith, ints, clamps)
+
+pub right_le_greatest : (x y : ℤ) → y ≤ℤ int_max x y
+right_le_greatest x y = omega (arith, ints, clamps)

@@ -4,7 +4,8 @@ use Rattle.std.specs.Prelude.{Option, Some, None, option_map, unwrap_or, find, f
 use Rattle.std.specs.Prelude.{All, List, [], ◌∷◌, filter, slice_index_or}
 use Rattle.std.specs.List.{cons_option}
 use Rattle.std.proofs.lemmas.List.Elements.{All-nil, All-head, All-tail, All-cons, All-append}
-use Rattle.whole_laws.specs.Whole.{last_or}
+use Rattle.std.proofs.Common.{◌≡◌, ◌<◌, arith, refl}
+use Rattle.whole_laws.specs.Whole.{last_or, list_of}
 
 -- the last member that passes a test, or what stands for none
 pub last-has : {A : Type 0} (P : A → Type 0) (test : A → Bool) (xs : List A) (none : A) → P none → All P xs
@@ -62,3 +63,21 @@ pub flat_map-has : {A B : Type 0} (P : B → Type 0) (f : A → List B) (xs : Li
     → ((x : A) → All P (f x)) → All P (flat_map f xs)
 flat_map-has P f [] h = All-nil P
 flat_map-has P f (x ∷ xs) h = All-append P (f x) (flat_map f xs) (h x) (flat_map-has P f xs h)
+
+-- nothing passes, nothing is found
+pub none_found : (test : ℕ → Bool) (n : ℕ) (f : ℕ → ℕ) → ((i : ℕ) → i < n → test (f i) ≡ false)
+    → find test (list_of n f) ≡ None
+none_found test zero f h = refl
+none_found test (suc n) f h =
+    rw (h 0 (omega arith)) (none_found test n (λ i. f (suc i)) (λ i below. h (suc i) (omega arith)))
+
+-- what none has, and each member that passes, the one that is found has
+pub found_by : (P : Option ℕ → Type 0) (test : ℕ → Bool) (xs : List ℕ) → P None
+    → All (λ e. test e ≡ true → P (Some e)) xs → P (find test xs)
+found_by P test [] bare all = bare
+found_by P test (x ∷ xs) bare all =
+    choose (test x) refl (found_by P test xs bare (All-tail (λ e. test e ≡ true → P (Some e)) x xs all))
+  where
+    choose : (b : Bool) → test x ≡ b → P (find test xs) → P (cond b (Some x) (find test xs))
+    choose true h later = All-head (λ e. test e ≡ true → P (Some e)) x xs all h
+    choose false h later = later

@@ -6,10 +6,7 @@ use Rattle.std.specs.Option.{option_to_list}
 use Rattle.std.specs.List.{cons_option}
 use Rattle.std.proofs.lemmas.List.Elements.{filter_map-append}
 use Rattle.whole_laws.specs.Whole.{list_of, places}
-
-pub list_of-more : {A : Type 0} (n : ℕ) (f : ℕ → A) → list_of (suc n) f ≡ list_of n f ++ f n ∷ []
-list_of-more zero f = refl
-list_of-more (suc n) f = ap (λ xs. f 0 ∷ xs) (list_of-more n (λ i. f (suc i)))
+use Rattle.whole_laws.proofs.ListsByPlace.{list_of-more}
 
 pub places-more : {B : Type 0} (n : ℕ) (h : ℕ → Option B)
     → filter_map h (places (n + 1)) ≡ filter_map h (places n) ++ option_to_list (h n)
@@ -19,12 +16,6 @@ places-more n h =
   where
     one : {B : Type 0} (h : ℕ → Option B) (n : ℕ) → cons_option (h n) [] ≡ option_to_list (h n)
     one h n = elim (h n) as (λ o. cons_option o [] ≡ option_to_list o) [ None ↦ refl | Some x ↦ refl ]
-
-pub list_of-agree : {A : Type 0} (n : ℕ) (f g : ℕ → A) → ((i : ℕ) → i < n → f i ≡ g i) → list_of n f ≡ list_of n g
-list_of-agree zero f g h = refl
-list_of-agree (suc n) f g h =
-    ap₂ (λ x xs. x ∷ xs) (h 0 (omega arith))
-    (list_of-agree n (λ i. f (suc i)) (λ i. g (suc i)) (λ i below. h (suc i) (omega arith)))
 
 -- functions that agree at the places of a list give the same of it
 filter_map-agree : {B : Type 0} (n : ℕ) (p : ℕ → ℕ) (f g : ℕ → Option B) → ((i : ℕ) → i < n → f (p i) ≡ g (p i))

@@ -1,5 +1,5 @@
 -- Whole numbers: lists by place, sums, the greatest and the least.
-use Rattle.std.specs.Prelude.{ℕ, zero, suc, max, ℤ, pos, negsuc, ◌+ℤ◌, List, [], ◌∷◌}
+use Rattle.std.specs.Prelude.{ℕ, zero, suc, max, ℤ, pos, negsuc, ◌+ℤ◌, List, [], ◌∷◌, Bool, true, ◌&&◌}
 use Rattle.std.specs.Int.{int_min, int_max}
 
 -- f 0, .., f (n - 1)
@@ -42,3 +42,8 @@ greatest_natural (x ∷ xs) = max x (greatest_natural xs)
 abbrev pub natural_part : ℤ → ℕ
 natural_part (pos n) = n
 natural_part (negsuc n) = 0
+
+-- a test holds for each number below n
+abbrev pub holds_below : ℕ → (ℕ → Bool) → Bool
+holds_below zero test = true
+holds_below (suc n) test = holds_below n test && test n

@@ -9,28 +9,24 @@ use Rattle.toml.specs.Data.{Data, Members}
 use Rattle.toml.specs.View.{items_of}
 use Rattle.whole_laws.specs.Whole.{list_of}
 use Rattle.model_specs.specs.Curve.{Piece, zero_piece}
-use Rattle.model_specs.specs.RecordRules.{months_of, piece_starts}
-use Rattle.ledger_laws.proofs.HeldSteps.{starts_by as at_most}
-use Rattle.whole_laws.proofs.ListsByPlace.{at-list_of, past-list_of, length-list_of}
+use Rattle.model_specs.specs.RecordRules.{months_of, piece_starts, is_bounded}
+use Rattle.whole_laws.proofs.ListsByPlace.{at-list_of, past-list_of, length-list_of, map-list_of}
+use Rattle.whole_laws.proofs.Tests.{within_is as at_most, passes_both}
 use Rattle.product_file.specs.Checks.{first_failed, first_failed_of_lists}
 use Rattle.product_file.specs.Members.{listed, item_at, whole_of}
 use Rattle.product_file.specs.HeadRules.{is_format_1}
-use Rattle.product_file.specs.CurveRules.{rule_8, rule_8_of, rule_9, rule_9_of, piece_of, is_bounded, months_of_term}
+use Rattle.product_file.specs.CurveRules.{rule_8, rule_8_of, rule_9, rule_9_of, piece_of, months_of_term}
 use Rattle.product_file.specs.CurveRules.{is_piece, is_in_order, start_of, curve_items}
 use Rattle.workload_gen.specs.declared.transition.Transition.{Transition}
 use Rattle.workload_gen.specs.declared.transition.Transition.TheVariants as variant
 use Rattle.workload_gen.specs.Draws.{state_after, draw_at}
 use Rattle.workload_gen.specs.Transitions.{level_of, spread_of}
 use Rattle.workload_gen.specs.Tree.{rate, interest, year_piece, state_before, generated}
-use Rattle.workload_gen.proofs.Passing.{both, some_places_pass, places_pass}
+use Rattle.workload_gen.proofs.Passing.{some_places_pass, places_pass}
 
 pub listed-items : (ds : List Data) → listed (items_of ds) ≡ ds
 listed-items [] = refl
 listed-items (d ∷ ds) = ap (λ more. d ∷ more) (listed-items ds)
-
-pub map-list_of : {A B : Type 0} (g : A → B) (n : ℕ) (f : ℕ → A) → map g (list_of n f) ≡ list_of n (λ i. g (f i))
-map-list_of g zero f = refl
-map-list_of g (suc n) f = ap (λ xs. g (f 0) ∷ xs) (map-list_of g n (λ i. f (suc i)))
 
 -- the pieces of a transition, by their years
 pub rate-years : (t : Transition) (x : ℕ) → listed (items_of (rate t x)) ≡ list_of 65 (year_piece t x)
@@ -47,13 +43,13 @@ starts_in_order : (n : ℕ) (f : ℕ → Data) (months : ℕ) → ((i : ℕ) →
 starts_in_order n f months starts within zero below =
     let first : start_of (item_at (list_of n f) 0) ≡ pos 0 =
     ap start_of (at-list_of n f 0 _ below) ∙ starts 0 below in
-    rw first (both _ _ refl (before 0 months (omega arith)))
+    rw first (passes_both _ _ refl (before 0 months (omega arith)))
 starts_in_order n f months starts within (suc i) below =
     let here : start_of (item_at (list_of n f) i) ≡ pos (12 * i) =
     ap start_of (at-list_of n f i _ (omega arith)) ∙ starts i (omega arith) in
     let next : start_of (item_at (list_of n f) (suc i)) ≡ pos (12 * suc i) =
     ap start_of (at-list_of n f (suc i) _ below) ∙ starts (suc i) below in
-    rw (here, next) (both _ _ (before (12 * i) (12 * suc i) (omega arith))
+    rw (here, next) (passes_both _ _ (before (12 * i) (12 * suc i) (omega arith))
     (before (12 * suc i) months (omega arith)))
 
 -- pieces that start a year apart, in a file of format 1
@@ -64,7 +60,7 @@ pieces_pass_8 : (tree : Members) (items : List Data) (n months : ℕ) (f : ℕ �
 pieces_pass_8 tree items n months f is some within term format starts pieces =
     rw (is, term, format, length-list_of n f)
     (some_places_pass n (λ i. is_piece 4 (item_at (list_of n f) i) && is_in_order (pos months) (list_of n f) i) some
-    (λ i below. both _ _ (rw (at-list_of n f i _ below) (pieces i)) (starts_in_order n f months starts within i below)))
+    (λ i below. passes_both _ _ (rw (at-list_of n f i _ below) (pieces i)) (starts_in_order n f months starts within i below)))
 
 years_pass_8 : (tree : Members) (t : Transition) (x : ℕ) → whole_of (codes "months") tree ≡ pos 780
     → is_format_1 tree ≡ true → first_failed (rule_8_of tree (listed (items_of (rate t x)))) ≡ None

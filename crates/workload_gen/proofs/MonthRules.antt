@@ -10,17 +10,16 @@ use Rattle.model_specs.specs.Curve.{Piece}
 use Rattle.model_specs.specs.MonthNumbers.{bernstein_numerators, curve_numerators, rho}
 use Rattle.model_specs.specs.ValuationRules.{obeys_rule_15, obeys_rule_16, obeys_rule_17}
 use Rattle.ledger_laws.specs.MonthLaws.{ObeysAllMonths}
+use Rattle.ledger_laws.proofs.Loads.{constant_numerators}
 use Rattle.whole_laws.proofs.Extremes.{greatest_whole_most}
-use Rattle.ledger_laws.proofs.HeldSteps.{starts_by}
+use Rattle.whole_laws.proofs.Tests.{within_is, above_is_not, passes_both}
 use Rattle.workload_gen.specs.declared.transition.Transition.{Transition}
 use Rattle.workload_gen.specs.declared.transition.Transition.TheVariants as variant
 use Rattle.workload_gen.specs.Draws.{state_after}
 use Rattle.workload_gen.specs.Tree.{state_before}
 use Rattle.workload_gen.specs.Laws.{generated_product}
-use Rattle.workload_gen.proofs.Passing.{both}
-use Rattle.workload_gen.proofs.Numerators.{constant, constant_numerators, sixfold, IsUpTo}
+use Rattle.workload_gen.proofs.Numerators.{constant, sixfold, IsUpTo}
 use Rattle.workload_gen.proofs.Rates.{quarter, rate_pieces, rates_small}
-use Rattle.workload_gen.proofs.YearlyPieces.{starts_after}
 
 -- the force of interest of a generated product: two constants
 abbrev interest_pieces : List Piece
@@ -33,9 +32,9 @@ interest_numerators month =
     (bernstein_numerators piece.c (month - piece.from) ≡ sixfold (pos (2488320 * 30000000)))
     ⊎ (bernstein_numerators piece.c (month - piece.from) ≡ sixfold (pos (2488320 * 25000000))) in
     elim (cases_lt month 240) [
-      | inl early ↦ rw (starts_by 0 month (omega arith), starts_after 240 month early)
+      | inl early ↦ rw (within_is 0 month (omega arith), above_is_not 240 month early)
           (inl (constant_numerators 30000000 (month - 0)))
-      | inr late ↦ rw (starts_by 0 month (omega arith), starts_by 240 month late)
+      | inr late ↦ rw (within_is 0 month (omega arith), within_is 240 month late)
           (inr (constant_numerators 25000000 (month - 240)))
     ]
 
@@ -57,7 +56,7 @@ pieces_of seed t = rate_pieces t (state_before (state_after seed 1) t)
 -- rule 16
 natural_list : (numbers : List ℤ) → All (IsUpTo quarter) numbers → list_all (int_le (pos 0)) numbers ≡ true
 natural_list [] all = refl
-natural_list (z ∷ numbers) all = both (int_le (pos 0) z) _ (natural z (All-head (IsUpTo quarter) z numbers all).0)
+natural_list (z ∷ numbers) all = passes_both (int_le (pos 0) z) _ (natural z (All-head (IsUpTo quarter) z numbers all).0)
     (natural_list numbers (All-tail (IsUpTo quarter) z numbers all))
   where
     natural : (z : ℤ) → pos 0 ≤ℤ z → int_le (pos 0) z ≡ true
@@ -70,10 +69,10 @@ rates_natural seed month t below = natural_list (curve_numerators (pieces_of see
 
 obeys_16 : (seed month : ℕ) → month < 780 → obeys_rule_16 (generated_product seed) month ≡ true
 obeys_16 seed month below =
-    both _ _ (rates_natural seed month variant.Disability below)
-    (both _ _ (rates_natural seed month variant.Recovery below)
-    (both _ _ (rates_natural seed month variant.DeathOfActive below)
-    (both _ _ (rates_natural seed month variant.DeathOfDisabled below) refl)))
+    passes_both _ _ (rates_natural seed month variant.Disability below)
+    (passes_both _ _ (rates_natural seed month variant.Recovery below)
+    (passes_both _ _ (rates_natural seed month variant.DeathOfActive below)
+    (passes_both _ _ (rates_natural seed month variant.DeathOfDisabled below) refl)))
 
 -- rule 17: the rates out of a state
 abbrev greatest : ℕ → ℕ → Transition → ℤ

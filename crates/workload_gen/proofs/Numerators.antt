@@ -5,17 +5,12 @@ use Rattle.std.proofs.Math.Nat.{pow-zero, pow-le-pow_left}
 use Rattle.std.proofs.lemmas.Int.{ints}
 use Rattle.std.proofs.lemmas.Nat.{mul-le}
 use Rattle.std.proofs.lemmas.List.Elements.{All-nil, All-cons}
-use mathlib.Core.Path.{ap₂}
 use Rattle.model_specs.specs.MonthNumbers.{bernstein_numerator, bernstein_numerators}
+use Rattle.ledger_laws.proofs.Loads.{six_alike}
 
 -- six numbers that are the same
 abbrev pub sixfold : ℤ → List ℤ
 sixfold z = z ∷ z ∷ z ∷ z ∷ z ∷ z ∷ []
-
-six_alike : (f : ℕ → ℤ) (z : ℤ) → f 0 ≡ z → f 1 ≡ z → f 2 ≡ z → f 3 ≡ z → f 4 ≡ z → f 5 ≡ z
-    → f 0 ∷ f 1 ∷ f 2 ∷ f 3 ∷ f 4 ∷ f 5 ∷ [] ≡ sixfold z
-six_alike f z a b c d e g = ap₂ (λ x xs. x ∷ xs) a (ap₂ (λ x xs. x ∷ xs) b (ap₂ (λ x xs. x ∷ xs) c
-    (ap₂ (λ x xs. x ∷ xs) d (ap₂ (λ x xs. x ∷ xs) e (ap (λ x. x ∷ []) g)))))
 
 -- a constant payment, and a constant curve
 abbrev pub payment : ℕ → List ℤ
@@ -32,15 +27,6 @@ payment_numerators a k = six_alike (bernstein_numerator (payment a) k) (pos (248
 
 abbrev pub constant : ℕ → List ℤ
 constant a = pos a ∷ pos 0 ∷ pos 0 ∷ pos 0 ∷ pos 0 ∷ pos 0 ∷ []
-
-pub constant_numerators : (a k : ℕ) → bernstein_numerators (constant a) k ≡ sixfold (pos (2488320 * a))
-constant_numerators a k = six_alike (bernstein_numerator (constant a) k) (pos (2488320 * a))
-    (rw (pow-zero k) (ap (λ n. pos n) (omega arith)))
-    (rw (pow-zero k) (ap (λ n. pos n) (omega arith)))
-    (rw (pow-zero k) (ap (λ n. pos n) (omega arith)))
-    (rw (pow-zero k) (ap (λ n. pos n) (omega arith)))
-    (rw (pow-zero k) (ap (λ n. pos n) (omega arith)))
-    (rw (pow-zero k) (ap (λ n. pos n) (omega arith)))
 
 -- a cubic curve with coefficients that are not negative
 abbrev pub cubic : (a b c d : ℕ) → List ℤ

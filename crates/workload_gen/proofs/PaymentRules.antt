@@ -1,4 +1,4 @@
--- The payments of a generated tree: the sums of both deaths, and a lump each month.
+-- The payments of a generated tree: the sums of passes_both deaths, and a lump each month.
 use Rattle.std.proofs.Common.{◌≡◌, ℕ, zero, suc, ◌^◌, ◌<◌, ◌≤◌, List, [], ◌∷◌, arith, refl, ap, sym, subst, ◌∙◌}
 use Rattle.std.specs.Prelude.{pos, Bool, true, false, not, ◌&&◌, ◌==◌, None, is_some, length, take, codes}
 use Rattle.std.specs.Prelude.{nat_le, int_le, unsigned_abs}
@@ -9,8 +9,8 @@ use Rattle.toml.specs.Data.{Data, Members}
 use Rattle.whole_laws.specs.Whole.{list_of}
 use Rattle.model_specs.specs.Payments.{constant_step}
 use Rattle.model_specs.specs.MonthNumbers.{bernstein_numerators}
-use Rattle.ledger_laws.proofs.HeldSteps.{starts_by as at_most}
 use Rattle.whole_laws.proofs.ListsByPlace.{at-list_of, length-list_of}
+use Rattle.whole_laws.proofs.Tests.{within_is as at_most, passes_both}
 use Rattle.product_file.specs.Checks.{first_failed, first_failed_of_lists}
 use Rattle.product_file.specs.Members.{item_at, whole_of, members_of}
 use Rattle.product_file.specs.HeadRules.{is_from_to, state_of}
@@ -18,7 +18,7 @@ use Rattle.product_file.specs.TransitionRule.{state_at, is_same_pair}
 use Rattle.product_file.specs.PaymentRules.{rule_11, is_bounded_step, are_small}
 use Rattle.product_file.specs.LumpRule.{rule_12, lump_items, lump_of, is_lump, is_good_lump, date_and_state}
 use Rattle.workload_gen.specs.Tree.{lump, lumps, annuity, generated}
-use Rattle.workload_gen.proofs.Passing.{both, places_pass, each_place_passes}
+use Rattle.workload_gen.proofs.Passing.{places_pass, each_place_passes}
 use Rattle.workload_gen.proofs.CurveRules.{listed-items, drawn_below}
 use Rattle.workload_gen.proofs.Numerators.{payment, payment_numerators}
 
@@ -27,7 +27,7 @@ sum_is_small : (k : ℕ) → are_small (bernstein_numerators (payment 10000000) 
 sum_is_small k = ap are_small (payment_numerators 10000000 k)
 
 sum_is_bounded : is_bounded_step (constant_step 0 (pos 10000000)) 780 ≡ true
-sum_is_bounded = both true _ refl
+sum_is_bounded = passes_both true _ refl
     (each_place_passes (λ k. are_small (bernstein_numerators (payment 10000000) k)) 780 (λ k. k)
     (λ k below. sum_is_small k))
 
@@ -66,7 +66,7 @@ module _ (tree : Members) (amount n months : ℕ) (items : lump_items tree ≡ l
       apart a b same h = let differ : (a == b) ≡ false = grind (arith, nat_tests) in rw differ
 
   dated : (k : ℕ) → suc k ≤ months → is_from_to (pos 0) (pos months) (pos (suc k)) ≡ true
-  dated k h = both _ _ (natural (suc k)) (most (suc k) months h)
+  dated k h = passes_both _ _ (natural (suc k)) (most (suc k) months h)
     where
       natural : (a : ℕ) → int_le (pos 0) (pos a) ≡ true
       natural a = grind (arith, ints)
@@ -75,7 +75,7 @@ module _ (tree : Members) (amount n months : ℕ) (items : lump_items tree ≡ l
       most a b h = grind (arith, ints)
 
   good_after : (k : ℕ) → k < n → is_good_after tree (lump amount k) (take k (list_of n (lump amount))) ≡ true
-  good_after k below = both _ _ (both _ _ (both _ _ (both true _ refl (rw term (dated k (omega arith)))) state)
+  good_after k below = passes_both _ _ (passes_both _ _ (passes_both _ _ (passes_both true _ refl (rw term (dated k (omega arith)))) state)
       (at_most amount (10 ^ 12) small))
       (ap not (none_earlier (λ e. is_same_pair (date_and_state (lump_of tree (lump amount k)))
       (date_and_state (lump_of tree e))) n k (lump amount) (other_month k)))

@@ -1,12 +1,12 @@
 -- Rule 18 of a generated product: what it pays is small.
 use Rattle.std.proofs.Common.{◌≡◌, ℕ, ◌*◌, ◌-◌, ◌^◌, ◌≤◌, [], ◌∷◌, arith, ap, sym, subst, ◌∙◌}
-use Rattle.std.specs.Prelude.{pos, ◌==◌, ◌&&◌, nat_le, true, unsigned_abs, find, option_map, map, All, List, length}
-use Rattle.std.specs.Prelude.{ℤ, slice_index_or}
+use Rattle.std.specs.Prelude.{pos, nat_le, true, unsigned_abs, All, List}
+use Rattle.std.specs.Prelude.{slice_index_or}
 use Rattle.std.proofs.lemmas.Bool.Decides.{nat_tests}
 use Rattle.std.proofs.lemmas.List.Elements.{All-nil, All-cons, All-map}
-use Rattle.whole_laws.specs.Whole.{list_of, places, greatest_natural}
+use Rattle.whole_laws.specs.Whole.{list_of, greatest_natural}
 use Rattle.model_specs.specs.Product.{Product, Step, Lump}
-use Rattle.model_specs.specs.Payments.{Plan, payment_plan, constant_step, step_at, lumps_at}
+use Rattle.model_specs.specs.Payments.{payment_plan, constant_step, step_at}
 use Rattle.model_specs.specs.Growth.{load, sum_size, greatest_sum}
 use Rattle.model_specs.specs.Ledgers.{greatest_lump, bound1024}
 use Rattle.model_specs.specs.RecordRules.{IsWellFormed}
@@ -14,12 +14,13 @@ use Rattle.model_specs.specs.ValuationRules.{obeys_rule_18}
 use Rattle.ledger_laws.specs.MonthLaws.{ObeysAllMonths}
 use Rattle.ledger_laws.specs.PaymentLaws.{HasLoadsWithin}
 use Rattle.ledger_laws.specs.PlanBoundLaws.{AddsAtMost}
-use Rattle.whole_laws.proofs.Extremes.{greatest_natural_most, All-list_of}
-use Rattle.whole_laws.proofs.Found.{place-has, given-has, filter_map-has}
-use Rattle.ledger_laws.proofs.HeldSteps.{starts_by}
-use Rattle.ledger_laws.proofs.Loads.{load_of, load_zero}
+use Rattle.whole_laws.proofs.Extremes.{greatest_natural_most}
+use Rattle.whole_laws.proofs.Found.{place-has}
+use Rattle.whole_laws.proofs.Tests.{within_is}
+use Rattle.whole_laws.proofs.ListsByPlace.{All-list_of}
+use Rattle.ledger_laws.proofs.Loads.{load_of}
 use Rattle.ledger_laws.proofs.MonthFacts.{month_numbers}
-use Rattle.ledger_laws.proofs.PaymentFacts.{pay_within}
+use Rattle.ledger_laws.proofs.PaymentFacts.{pay_within, no_step_pays, lump_most}
 use Rattle.ledger_laws.proofs.PlanBounds.{bound_most}
 use Rattle.toml.specs.Data.{Data}
 use Rattle.product_file.specs.LumpRule.{lump_items, lump_of}
@@ -36,19 +37,16 @@ death_steps = constant_step 0 (pos 10000000) ∷ []
 
 death_load : (month : ℕ) → load (step_at death_steps month) month ≤ 10000000
 death_load month =
-    rw (starts_by 0 month (omega arith)) (omega (arith, ap load_of (payment_numerators 10000000 (month - 0))))
-
-no_load : (month most : ℕ) → load (step_at [] month) month ≤ most
-no_load month most = omega (arith, load_zero 0 month)
+    rw (within_is 0 month (omega arith)) (omega (arith, ap load_of (payment_numerators 10000000 (month - 0))))
 
 -- the sums that the four transitions pay
 sum_load : (e month : ℕ) → load (step_at (slice_index_or ([] ∷ [] ∷ death_steps ∷ death_steps ∷ []) e []) month) month
     ≤ 10000000
 sum_load e month =
     let IsSmall : List Step → Type 0 = λ steps. load (step_at steps month) month ≤ 10000000 in
-    place-has IsSmall ([] ∷ [] ∷ death_steps ∷ death_steps ∷ []) e [] (no_load month 10000000)
-    (All-cons IsSmall [] ([] ∷ death_steps ∷ death_steps ∷ []) (no_load month 10000000)
-    (All-cons IsSmall [] (death_steps ∷ death_steps ∷ []) (no_load month 10000000)
+    place-has IsSmall ([] ∷ [] ∷ death_steps ∷ death_steps ∷ []) e [] (no_step_pays month 10000000)
+    (All-cons IsSmall [] ([] ∷ death_steps ∷ death_steps ∷ []) (no_step_pays month 10000000)
+    (All-cons IsSmall [] (death_steps ∷ death_steps ∷ []) (no_step_pays month 10000000)
     (All-cons IsSmall death_steps (death_steps ∷ []) (death_load month)
     (All-cons IsSmall death_steps [] (death_load month) (All-nil IsSmall)))))
 
@@ -63,18 +61,6 @@ greatest_sum_small seed = four 0 0 (sum_size 780 death_steps) (omega arith) (ome
     four : (a b c : ℕ) → a ≤ 10000000 → b ≤ 10000000 → c ≤ 10000000
         → greatest_natural (a ∷ b ∷ c ∷ c ∷ []) ≤ 10000000
     four a b c ha hb hc = omega arith
-
--- the greatest lump of a date
-lump_most : (product : Product) (plan : Plan) (date most : ℕ) → All (λ l. unsigned_abs l.amount ≤ most) plan.lumps
-    → greatest_lump product plan date ≤ most
-lump_most product plan date most all =
-    greatest_natural_most (map (λ l. unsigned_abs l.1) (lumps_at (length product.states) plan date)) most
-    (All-map (λ n. n ≤ most) (λ (l : ℕ × ℤ). unsigned_abs l.1) (lumps_at (length product.states) plan date)
-    (filter_map-has (λ (l : ℕ × ℤ). unsigned_abs l.1 ≤ most)
-    (λ i. option_map (λ l. (i, l.amount)) (find (λ l. (l.month == date) && (l.state == i)) plan.lumps))
-    (places (length product.states))
-    (λ i. given-has (λ (l : ℕ × ℤ). unsigned_abs l.1 ≤ most) (λ l. (i, l.amount))
-    (λ l. (l.month == date) && (l.state == i)) plan.lumps all)))
 
 annuity_small : (seed : ℕ) → annuity seed ≤ 150001
 annuity_small seed = omega (arith, drawn_below seed 0 50001 (omega arith))
@@ -92,7 +78,7 @@ lumps_small seed =
 loads_small : (seed : ℕ)
     → HasLoadsWithin (generated_product seed) (payment_plan (generated_product seed)) 0 10000000 150001
 loads_small seed = record {
-  sojourns = λ i month below. no_load month 0;
+  sojourns = λ i month below. no_step_pays month 0;
   sums = λ e month below. sum_load e month;
   greatest_sum = greatest_sum_small seed;
   lumps = λ date. lump_most (generated_product seed) (payment_plan (generated_product seed)) date 150001

@@ -5,6 +5,7 @@ use Rattle.std.proofs.lemmas.Int.{ints}
 use Rattle.std.proofs.lemmas.List.Elements.{All-weaker}
 use Rattle.toml.specs.View.{items_of}
 use Rattle.whole_laws.specs.Whole.{list_of}
+use Rattle.whole_laws.proofs.ListsByPlace.{map-list_of}
 use Rattle.model_specs.specs.Curve.{Piece}
 use Rattle.model_specs.specs.MonthNumbers.{bernstein_numerators, curve_numerators}
 use Rattle.product_file.specs.Members.{listed}
@@ -13,7 +14,7 @@ use Rattle.workload_gen.specs.declared.transition.Transition.{Transition}
 use Rattle.workload_gen.specs.Draws.{state_after, draw_at}
 use Rattle.workload_gen.specs.Transitions.{level_of, spread_of}
 use Rattle.workload_gen.specs.Tree.{rate, year_piece}
-use Rattle.workload_gen.proofs.CurveRules.{rate-years, map-list_of, drawn_below, level_most, spread_most}
+use Rattle.workload_gen.proofs.CurveRules.{rate-years, drawn_below, level_most, spread_most}
 use Rattle.workload_gen.proofs.Numerators.{IsUpTo, cubic, cubic_numerators}
 use Rattle.workload_gen.proofs.YearlyPieces.{yearly-has}
 

@@ -1,6 +1,6 @@
 -- The tables and arrays of a tree, as their views show them while they are built.
-use Rattle.std.proofs.Common.{◌≡◌, ℕ, zero, suc, ◌+◌, ◌<◌, List, [], ◌∷◌, ◌++◌, map, take, length, get_or}
-use Rattle.std.proofs.Common.{Ordering, Less, Equal, Greater, String, Global, string_bytes, refl, ap, ◌∙◌, add-one}
+use Rattle.std.proofs.Common.{◌≡◌, ℕ, ◌+◌, ◌<◌, List, [], ◌∷◌, ◌++◌, map, take, length, get_or}
+use Rattle.std.proofs.Common.{Ordering, Less, Equal, Greater, String, Global, string_bytes, refl, ◌∙◌, add-one}
 use Rattle.std.specs.BTreeMap.{insert_entry}
 use Rattle.std.specs.Ordering.{match_ordering}
 use Rattle.std.specs.String.{string_cmp}
@@ -8,6 +8,7 @@ use Rattle.std.proofs.lemmas.List.{map-append, take_more}
 use Rattle.toml.specs.View.{view, members_view}
 use Rattle.toml.specs.declared.value.Value.{Value}
 use Rattle.whole_laws.specs.Whole.{list_of}
+use Rattle.whole_laws.proofs.ListsByPlace.{list_of-more}
 use Rattle.workload_gen.specs.Tree.{with_member}
 
 abbrev Entry : Type 0
@@ -26,10 +27,6 @@ pub members_view-put : (entries : List Entry) (key : String Global) (value : Val
 members_view-put [] key value = refl
 members_view-put (entry ∷ entries) key value =
     by_order (string_cmp key entry.0) _ _ _ ∙ rw (members_view-put entries key value)
-
-list_of-more : {A : Type 0} (n : ℕ) (f : ℕ → A) → list_of (suc n) f ≡ list_of n f ++ f n ∷ []
-list_of-more zero f = refl
-list_of-more (suc n) f = ap (λ xs. f 0 ∷ xs) (list_of-more n (λ i. f (suc i)))
 
 -- one more value, of those that are given by places
 pub one_place_more : {A B : Type 0} (f : A → B) (g : ℕ → B) (n : ℕ) (xs : List A) (x : A) → map f xs ≡ list_of n g

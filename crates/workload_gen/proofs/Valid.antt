@@ -22,8 +22,8 @@ use Rattle.workload_gen.proofs.SeedNames.{names_pass}
 use Rattle.workload_gen.proofs.CurveRules.{pieces_pass, sizes_pass}
 use Rattle.workload_gen.proofs.PaymentRules.{amounts_pass, lumps_pass}
 use Rattle.workload_gen.proofs.MonthRules.{obeys_months}
-use Rattle.workload_gen.proofs.Passing.{none_found}
 use Rattle.workload_gen.proofs.PlanBound.{obeys_18}
+use Rattle.whole_laws.proofs.Found.{none_found}
 
 -- none of fourteen rules is broken
 none_broken : (a b c d e f g h i j k l m n : Option ℕ) → a ≡ None → b ≡ None → c ≡ None → d ≡ None → e ≡ None

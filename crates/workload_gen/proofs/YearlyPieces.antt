@@ -1,14 +1,10 @@
 -- The piece of a curve that holds in a month, where pieces start a year apart.
 use Rattle.std.proofs.Common.{◌≡◌, ℕ, zero, suc, ◌+◌, ◌*◌, ◌<◌, ◌≤◌, [], arith, refl, inl, inr}
-use Rattle.std.specs.Prelude.{false, nat_le, filter}
+use Rattle.std.specs.Prelude.{nat_le, filter}
 use Rattle.std.proofs.lemmas.Bool.{cases_lt}
-use Rattle.std.proofs.lemmas.Bool.Decides.{nat_tests}
 use Rattle.whole_laws.specs.Whole.{list_of, last_or}
+use Rattle.whole_laws.proofs.Tests.{above_is_not, within_is}
 use Rattle.model_specs.specs.Curve.{Piece, zero_piece, piece_at}
-use Rattle.ledger_laws.proofs.HeldSteps.{starts_by}
-
-pub starts_after : (a b : ℕ) → b < a → nat_le a b ≡ false
-starts_after a b h = grind (arith, nat_tests)
 
 -- pieces that start a year apart, from some year on
 abbrev StartYearly : ℕ → (ℕ → Piece) → Type 0
@@ -24,7 +20,7 @@ none_started : (n first month : ℕ) (pieces : ℕ → Piece) → StartYearly fi
     → month < 12 * first → filter (λ piece. nat_le piece.from month) (list_of n pieces) ≡ []
 none_started zero first month pieces starts early = refl
 none_started (suc n) first month pieces starts early =
-    rw (starts_after (pieces 0).from month (omega (arith, starts 0)))
+    rw (above_is_not (pieces 0).from month (omega (arith, starts 0)))
     (none_started n (suc first) month (λ i. pieces (suc i)) (later_start first pieces starts) (omega arith))
 
 -- what each piece has in its year, the one that holds has
@@ -37,11 +33,11 @@ holds-has P (suc n) first month pieces none starts from below has =
     elim (cases_lt month (12 * suc first)) [
       | inl this ↦
           rw (
-            starts_by (pieces 0).from month (omega (arith, starts 0)),
+            within_is (pieces 0).from month (omega (arith, starts 0)),
             none_started n (suc first) month (λ i. pieces (suc i)) (later_start first pieces starts) this,
           ) (has 0 (omega arith) (omega arith) (omega arith))
       | inr later ↦
-          rw (starts_by (pieces 0).from month (omega (arith, starts 0)))
+          rw (within_is (pieces 0).from month (omega (arith, starts 0)))
           (holds-has P n (suc first) month (λ i. pieces (suc i)) (pieces 0) (later_start first pieces starts) later
           (omega arith) (λ i inside start end. has (suc i) (omega arith) (omega arith) (omega arith)))
     ]

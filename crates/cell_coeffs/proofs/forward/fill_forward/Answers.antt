@@ -7,7 +7,7 @@ use Rattle.cell_coeffs.proofs.FlatCells.{flat_cell}
 use Rattle.cell_coeffs.proofs.ForwardCells.{small_flows}
 use Rattle.cell_coeffs.proofs.ForwardSteps.{made_forward_kept, columns_more, none_after}
 use Rattle.cell_coeffs.proofs.StandingForward.{stands_for_kolmogorov, forward_constant}
-use Rattle.cell_coeffs.proofs.Writes.{same_places_then}
+use Rattle.linear_system.proofs.Made.{same_places_then}
 use Rattle.cell_coeffs.proofs.forward.fill_forward.Goals as goal
 
 all_states : (end state states : ℕ) → end ≡ states → end ≤ state → state ≤ end → state ≡ states

@@ -1,7 +1,7 @@
 use Rattle.cell_bounds.specs.ScaledSystems.{scaling}
 use Rattle.cell_coeffs.specs.Rows.{cell_at}
 use Rattle.cell_coeffs.proofs.RowSteps.{places_kept, rows_more, none_more}
-use Rattle.cell_coeffs.proofs.Writes.{same_places_then}
+use Rattle.linear_system.proofs.Made.{same_places_then}
 use Rattle.cell_coeffs.proofs.job.fill_first.Goals as goal
 
 pub loop-state-preserved : goal.loop-state-preserved

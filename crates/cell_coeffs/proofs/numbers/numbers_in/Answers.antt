@@ -5,10 +5,11 @@ use Rattle.std.specs.Int.{w64, w128}
 use Rattle.std.proofs.lemmas.Int.{ints, to_z-of_z, fits_signed_from_abs}
 use Rattle.frac_laws.specs.Fraction.{Fraction, over}
 use Rattle.frac_laws.specs.Lists.{number_at}
+use Rattle.frac_laws.proofs.QuotientFacts.{over-zero}
 use Rattle.model_specs.specs.Cells.{curve_cell, cells_of_32}
 use Rattle.curve_pieces.specs.Directions.{direction_of}
-use Rattle.cell_coeffs.proofs.Numerators.{at-all_over, fine_within, fine_near, past_end}
-use Rattle.product_cells.proofs.ProductCurves.{over_none}
+use Rattle.cell_coeffs.proofs.Numerators.{at-all_over, fine_within, fine_near}
+use Rattle.whole_laws.proofs.Members.{past_end}
 use Rattle.cell_coeffs.proofs.numbers.numbers_in.Goals as goal
 
 den_is : (den : ℤ) → pos 1 ≤ℤ den → den *ℤ pos (384 ^ 6) ≡ pos (unsigned_abs den * 384 ^ 6)
@@ -70,4 +71,4 @@ returns-clause-beyond c =
     λ m six. ap (λ (p : List Fraction). number_at p m) (sym (c.cell_of.ensures.polynomial den some))
     ∙ at-all_over (den * 384 ^ 6) c.cell_of.result.n m
     ∙ ap (λ (z : ℤ). over z (den * 384 ^ 6)) (past_end c.cell_of.result.n m (omega (arith, six, long)))
-    ∙ over_none (den * 384 ^ 6)
+    ∙ over-zero (den * 384 ^ 6)

@@ -4,7 +4,7 @@ use Rattle.std.specs.Prelude.{◌+ℤ◌, ◌*ℤ◌, unsigned_abs, ℤ, ℕ, Li
 use Rattle.std.specs.Int.{w128, int_shr}
 use Rattle.std.proofs.lemmas.Int.{to_z-of_z, fits_signed_from_abs}
 use Rattle.frac_laws.specs.Rounding.{floor_of}
-use Rattle.fixed_num.proofs.Shifts.{shift-floor}
+use Rattle.frac_laws.proofs.Floors.{shift-floor}
 use Rattle.cell_coeffs.specs.Products.{products_to, sizes_to}
 use Rattle.cell_coeffs.proofs.Products.{product_size, products_more, sum_fits, term_fits, shifted_size, sizes_mono}
 use Rattle.cell_coeffs.proofs.paid.paid.Goals as goal

@@ -6,7 +6,7 @@ use Rattle.cell_coeffs.specs.StoredRows.{IsStoredRow}
 use Rattle.cell_coeffs.proofs.PairRowSteps.{moments_kept, moments_first, first_row_kept}
 use Rattle.cell_coeffs.proofs.SmallPairs.{admissible_pair}
 use Rattle.cell_coeffs.proofs.StandingPairs.{stands_for_norberg, no_place_none}
-use Rattle.cell_coeffs.proofs.Writes.{same_places_then}
+use Rattle.linear_system.proofs.Made.{same_places_then}
 use Rattle.cell_coeffs.proofs.pair_job.fill_moments.Goals as goal
 
 pub fill_first-requires-clause-small : goal.fill_first-requires-clause-small

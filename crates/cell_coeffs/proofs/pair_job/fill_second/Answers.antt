@@ -2,7 +2,7 @@ use Rattle.std.proofs.Common.{◌∙◌, arith, length}
 use Rattle.cell_bounds.specs.ScaledSystems.{scaling}
 use Rattle.cell_coeffs.specs.Rows.{cell_at}
 use Rattle.cell_coeffs.proofs.PairRowSteps.{moments_kept, second_rows_more}
-use Rattle.cell_coeffs.proofs.Writes.{same_places_then}
+use Rattle.linear_system.proofs.Made.{same_places_then}
 use Rattle.cell_coeffs.proofs.pair_job.fill_second.Goals as goal
 
 pub loop-state-preserved : goal.loop-state-preserved

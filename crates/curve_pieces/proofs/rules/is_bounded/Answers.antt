@@ -3,7 +3,8 @@ use Rattle.std.specs.Prelude.{unsigned_abs}
 use Rattle.std.specs.Int.{w64}
 use Rattle.std.proofs.lemmas.Int.{to_z-of_z}
 use Rattle.named_numbers.specs.Numbers.{most_coefficient}
-use Rattle.curve_pieces.proofs.Bounds.{product_fits, power_fits, next_power, within_limit}
+use Rattle.curve_pieces.proofs.Bounds.{next_power, within_limit}
+use Rattle.model_laws.proofs.MonthPowers.{product_fits, power_fits}
 use Rattle.curve_pieces.proofs.rules.is_bounded.Goals as goal
 
 pub overflow_mul-from : goal.overflow_mul-from

@@ -3,8 +3,8 @@ use Rattle.std.specs.Prelude.{unsigned_abs}
 use Rattle.std.specs.Int.{w64}
 use Rattle.std.proofs.lemmas.Int.{to_z-of_z}
 use Rattle.named_numbers.specs.Numbers.{most_coefficient}
-use Rattle.curve_pieces.proofs.Bounds.{product_fits, power_fits}
 use Rattle.file_checks.proofs.SizeLemmas.{all_of, all_of-fails, size_above}
+use Rattle.model_laws.proofs.MonthPowers.{product_fits, power_fits}
 use Rattle.file_checks.proofs.sizes.is_bounded.Goals as goal
 
 pub overflow_mul-from : goal.overflow_mul-from

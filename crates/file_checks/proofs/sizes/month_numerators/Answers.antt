@@ -1,9 +1,10 @@
 use Rattle.std.proofs.Common.{◌≡◌, ◌+◌, length, ap, ◌∙◌, arith, rules}
 use Rattle.model_specs.specs.RecordRules.{IsBounded}
 use Rattle.model_specs.specs.MonthNumbers.{bernstein_numerators}
-use Rattle.curve_pieces.proofs.Numerators.{numerators_are}
+use Rattle.model_laws.proofs.MonthNumerators.{numerators_are}
+use Rattle.model_laws.proofs.FourCoefficients.{padded_bounded, padded_numerators}
 use Rattle.curve_pieces.proofs.Sizes.{month_fits}
-use Rattle.file_checks.proofs.SizeLemmas.{bounded_from_test, padded_bounded, padded_numerators}
+use Rattle.file_checks.proofs.SizeLemmas.{bounded_from_test}
 use Rattle.file_checks.proofs.sizes.month_numerators.Goals as goal
 
 pub month_bernstein-requires : goal.month_bernstein-requires

@@ -4,7 +4,7 @@ use Rattle.std.specs.Int.{w64, w128, int_shr}
 use Rattle.std.proofs.lemmas.Int.{to_z-of_z, fits_signed_from_abs}
 use Rattle.frac_laws.specs.Rounding.{floor_of}
 use Rattle.fixed_num.proofs.Shifts.{floor_in_two, sum_shifted_size}
-use Rattle.fixed_num.proofs.Terms.{size_of_sum}
+use Rattle.whole_laws.proofs.Numbers.{size_of_sum}
 use Rattle.fixed_num.proofs.word_product.dot_words.Goals as goal
 
 pub returns-clause-value : goal.returns-clause-value

@@ -1,8 +1,8 @@
 use Rattle.std.proofs.Common.{◌≡◌, ◌<◌, ◌≤◌, ◌+◌, ◌∙◌, refl, subst, arith, add-one}
 use Rattle.cell_coeffs.proofs.ForwardSteps.{made_forward_kept}
-use Rattle.cell_coeffs.proofs.Writes.{same_places_then}
 use Rattle.kolmogorov_forward.specs.MonthRuns.{AreNearIn}
 use Rattle.kolmogorov_forward.proofs.CellSteps.{can_step, stepped_to, answers_here, constant_here}
+use Rattle.linear_system.proofs.Made.{same_places_then}
 use Rattle.kolmogorov_forward.proofs.month.month_over.Goals as goal
 
 pub loop-cell-init : goal.loop-cell-init

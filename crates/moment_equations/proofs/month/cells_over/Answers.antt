@@ -1,8 +1,8 @@
 use Rattle.std.proofs.Common.{◌≡◌, ◌<◌, ◌+◌, ◌∙◌, refl, arith, add-one}
 use Rattle.cell_coeffs.proofs.PairRowSteps.{moments_kept}
-use Rattle.cell_coeffs.proofs.Writes.{same_places_then}
 use Rattle.moment_equations.specs.NearMoments.{months_behind}
 use Rattle.moment_equations.proofs.CellSteps.{can_step, stays_on, stands_here}
+use Rattle.linear_system.proofs.Made.{same_places_then}
 use Rattle.moment_equations.proofs.month.cells_over.Goals as goal
 
 pub loop-done-init : goal.loop-done-init

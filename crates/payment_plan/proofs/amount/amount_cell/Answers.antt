@@ -6,9 +6,9 @@ use Rattle.frac_laws.specs.Fraction.{over, whole}
 use Rattle.frac_laws.specs.Polynomials.{all_over, shifted, stretched}
 use Rattle.named_numbers.specs.Numbers.{cells_of_month, cells_of_year}
 use Rattle.poly_small.specs.WholePolynomials.{value_of_sizes}
-use Rattle.poly_small.proofs.Sixes.{six_are_all}
 use Rattle.payment_plan.proofs.Shifts.{IsCell, cell_is_amount}
 use Rattle.payment_plan.proofs.Sizes.{forms_of, shift_fits, cell_fits}
+use Rattle.whole_laws.proofs.ShortLists.{six_are_all}
 use Rattle.payment_plan.proofs.amount.amount_cell.Goals as goal
 
 pub shift-requires : goal.shift-requires

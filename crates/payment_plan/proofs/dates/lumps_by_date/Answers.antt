@@ -1,10 +1,10 @@
 use Rattle.std.proofs.Common.{◌≡◌, suc, ◌+◌, length, arith, ap, ◌∙◌, add-one}
 use Rattle.std.proofs.lemmas.List.{with_items_is}
 use Rattle.whole_laws.specs.Whole.{list_of}
+use Rattle.whole_laws.proofs.ListsByPlace.{list_of-agree}
 use Rattle.payment_plan.specs.Records.{lumps_of}
 use Rattle.payment_plan.specs.Tables.{row_at, dated_lumps}
 use Rattle.payment_plan.proofs.TableRows.{IsTable, row_is}
-use Rattle.whole_laws.proofs.Places.{list_of-agree}
 use Rattle.payment_plan.proofs.dates.lumps_by_date.Goals as goal
 
 pub returns : goal.returns

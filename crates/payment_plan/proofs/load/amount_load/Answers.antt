@@ -2,7 +2,7 @@ use Rattle.std.proofs.Common.{◌≡◌, ◌-◌, pos, length, FitsSigned, arith
 use Rattle.std.specs.Int.{w128}
 use Rattle.std.proofs.lemmas.Int.{to_z-of_z}
 use Rattle.payment_plan.specs.Loads.{AreWithin, load_of_numerators}
-use Rattle.curve_pieces.proofs.FourCoefficients.{payment_numerators_are}
+use Rattle.model_laws.proofs.FourCoefficients.{payment_numerators_are}
 use Rattle.payment_plan.proofs.Sizes.{payment_month_fits}
 use Rattle.payment_plan.proofs.load.amount_load.Goals as goal
 

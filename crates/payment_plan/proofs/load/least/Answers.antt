@@ -1,7 +1,7 @@
 use Rattle.std.proofs.Common.{◌≡◌, pos, get_or, length, FitsSigned, rules}
 use Rattle.std.specs.Int.{w128}
 use Rattle.std.proofs.lemmas.Int.{to_z-of_z}
-use Rattle.payment_plan.proofs.Extremes.{least_of_six}
+use Rattle.whole_laws.proofs.ShortLists.{least_of_six}
 use Rattle.payment_plan.proofs.load.least.Goals as goal
 
 pub returns : goal.returns

@@ -4,10 +4,11 @@ use Rattle.std.proofs.Common.{Bool, true, arith, refl, ap, sym, ◌∙◌, lit�
 use Rattle.std.specs.Prelude.{All, nat_le, unsigned_abs, slice_index, slice_index_or}
 use Rattle.std.specs.List.{list_all}
 use Rattle.std.proofs.lemmas.Bool.Decides.{nat_tests}
-use Rattle.std.proofs.lemmas.List.Elements.{All-cons, All-nil}
+use Rattle.std.proofs.lemmas.List.Elements.{All-cons}
 use Rattle.std.proofs.lemmas.List.Sums.{AllPass-from_list_all}
 use Rattle.whole_laws.specs.Whole.{places}
 use Rattle.whole_laws.proofs.ListsByPlace.{at-list_of, length-list_of}
+use Rattle.whole_laws.proofs.Members.{All-one, All-two}
 use Rattle.model_specs.specs.Product.{Step, Lump}
 use Rattle.model_specs.specs.MonthNumbers.{coefficient_at, bernstein_numerators}
 use Rattle.model_specs.specs.RecordRules.{AreDistinct, IsBoundedStep, IsBoundedPayment, IsPayment}
@@ -47,15 +48,8 @@ bounded c s h k =
           s k m below);
     }
 
--- lists of one, two and three
-only : {A : Type 0} (P : A → Type 0) (x : A) → P x → All P (x ∷ [])
-only P x h = All-cons P x [] h (All-nil P)
-
-two : {A : Type 0} (P : A → Type 0) (x y : A) → P x → P y → All P (x ∷ y ∷ [])
-two P x y h k = All-cons P x (y ∷ []) h (only P y k)
-
 three : {A : Type 0} (P : A → Type 0) (x y z : A) → P x → P y → P z → All P (x ∷ y ∷ z ∷ [])
-three P x y z h k l = All-cons P x (y ∷ z ∷ []) h (two P y z k l)
+three P x y z h k l = All-cons P x (y ∷ z ∷ []) h (All-two P y z k l)
 
 abbrev sum : List Step
 sum =
@@ -89,7 +83,7 @@ two_steps : (first second : Step) → first.from ≡ 0 → 0 < second.from → s
     → length first.c ≡ 4 → length second.c ≡ 4 → IsPayment 24 (first ∷ second ∷ [])
 two_steps first second start later within four-1 four-2 =
     record {
-      four = two (λ step. length step.c ≡ 4) first second four-1 four-2;
+      four = All-two (λ step. length step.c ≡ 4) first second four-1 four-2;
       starts = record {
         some = lit≤ tt;
         first = start;
@@ -126,13 +120,13 @@ allowed every within =
       some_month = lit≤ tt;
       most_months = lit≤ tt;
       payments = record {
-        states = only (λ s. s.state < 3) _ (lit< tt);
+        states = All-one (λ s. s.state < 3) _ (lit< tt);
         distinct = λ i j low inside. absurd (omega arith);
-        sojourns = only (λ s. IsPayment 24 s.steps) _ (two_steps _ _ refl (lit< tt) (lit< tt) refl refl);
-        sums = two (λ steps. 1 ≤ length steps → IsPayment 24 steps) [] sum (λ some. absurd (omega arith))
+        sojourns = All-one (λ s. IsPayment 24 s.steps) _ (two_steps _ _ refl (lit< tt) (lit< tt) refl refl);
+        sums = All-two (λ steps. 1 ≤ length steps → IsPayment 24 steps) [] sum (λ some. absurd (omega arith))
             (λ some. two_steps _ _ refl (lit< tt) (lit< tt) refl refl);
-        bounded_sojourns = only (λ s. IsBoundedPayment 24 s.steps) _ rate_bounded;
-        bounded_sums = two (IsBoundedPayment 24) [] sum (λ k below. absurd (omega arith)) sum_bounded;
+        bounded_sojourns = All-one (λ s. IsBoundedPayment 24 s.steps) _ rate_bounded;
+        bounded_sums = All-two (IsBoundedPayment 24) [] sum (λ k below. absurd (omega arith)) sum_bounded;
       };
       lumps = record {
         dates = three (λ l. l.month ≤ 24) _ _ _ (lit≤ tt) (lit≤ tt) (lit≤ tt);
@@ -141,7 +135,7 @@ allowed every within =
         distinct = lumps_differ;
       };
       pattern = record {
-        payers = two (λ i. i < 3) 2 0 (lit< tt) (lit< tt);
+        payers = All-two (λ i. i < 3) 2 0 (lit< tt) (lit< tt);
         distinct = payers_differ;
         until_above_0 = λ some. lit≤ tt;
         until_within = lit≤ tt;

@@ -3,9 +3,9 @@ use Rattle.std.specs.Prelude.{unsigned_abs}
 use Rattle.std.specs.Int.{w128, int_min, int_max}
 use Rattle.std.proofs.lemmas.Int.{ints, to_z-of_z}
 use mathlib.Core.Path.{ap₂}
-use Rattle.fixed_interval.proofs.Ends.{of_least, of_greatest}
 use Rattle.premium_solver.specs.Quotients.{least_divisor, most_quotient}
 use Rattle.premium_solver.proofs.IntervalQuotients.{encloses, ordered_ends, close}
+use Rattle.whole_laws.proofs.Extremes.{lesser_whole-has, greater_whole-has}
 use Rattle.premium_solver.proofs.quotients.quotient.Goals as goal
 
 pub returns-clause-lo : goal.returns-clause-lo
@@ -67,8 +67,8 @@ returns-clause-small c =
     let lo = simp to_z-of_z at c.min.ensures.value in
     let hi = simp to_z-of_z at c.max.ensures.value in
     record {
-      lo = simp to_z-of_z (subst P (sym lo) (of_least P c.floor_quotient.result c.floor_quotient-2.result
+      lo = simp to_z-of_z (subst P (sym lo) (lesser_whole-has P c.floor_quotient.result c.floor_quotient-2.result
           (omega (arith, c.floor_quotient.ensures.size)) (omega (arith, c.floor_quotient-2.ensures.size))));
-      hi = simp to_z-of_z (subst P (sym hi) (of_greatest P c.ceil_quotient.result c.ceil_quotient-2.result
+      hi = simp to_z-of_z (subst P (sym hi) (greater_whole-has P c.ceil_quotient.result c.ceil_quotient-2.result
           (omega (arith, c.ceil_quotient.ensures.size)) (omega (arith, c.ceil_quotient-2.ensures.size))));
     }

@@ -1,36 +1,10 @@
 use Rattle.std.proofs.Common.{◌≡◌, ℕ, List, [], ◌∷◌, refl, rules, subst, sym, lit<, lit≤}
 use Rattle.std.specs.Prelude.{codes, All}
-use Rattle.std.proofs.lemmas.List.Sums.{AllPass-from_list_all}
 use Rattle.std.proofs.lemmas.List.Elements.{All-nil, All-cons}
 use Rattle.curve_pieces.specs.PiecewiseCurves.{PiecewiseCurve}
-use Rattle.model_specs.specs.Names.{IsGoodName, is_name_byte}
+use Rattle.model_specs.specs.Names.{IsGoodName}
+use Rattle.model_laws.proofs.GoodNames.{name_is_good, states_are_good}
 use Rattle.reserve_report.proofs.tests.endowment.Goals as goal
-
-name_is_good : IsGoodName 40 (codes "endowment")
-name_is_good = record {
-  not_empty = lit< tt;
-  short = lit≤ tt;
-  bytes = AllPass-from_list_all is_name_byte (codes "endowment") refl;
-}
-
-on_is_good : IsGoodName 24 (codes "on")
-on_is_good = record {
-  not_empty = lit< tt;
-  short = lit≤ tt;
-  bytes = AllPass-from_list_all is_name_byte (codes "on") refl;
-}
-
-off_is_good : IsGoodName 24 (codes "off")
-off_is_good = record {
-  not_empty = lit< tt;
-  short = lit≤ tt;
-  bytes = AllPass-from_list_all is_name_byte (codes "off") refl;
-}
-
-states_are_good : All (IsGoodName 24) (codes "on" ∷ codes "off" ∷ [])
-states_are_good =
-    All-cons (IsGoodName 24) (codes "on") (codes "off" ∷ []) on_is_good
-    (All-cons (IsGoodName 24) (codes "off") [] off_is_good (All-nil (IsGoodName 24)))
 
 pub new-requires-7 : goal.new-requires-7
 new-requires-7 c =

@@ -3,8 +3,8 @@ use Rattle.std.proofs.Common.{arith, rules, ap, refl, ◌∙◌}
 use Rattle.std.specs.Prelude.{unsigned_abs}
 use Rattle.std.specs.Int.{w64, w128}
 use Rattle.std.proofs.lemmas.Int.{to_z-of_z, fits_signed_from_abs}
-use Rattle.taylor_step.proofs.Turns.{size-add}
 use Rattle.taylor_step.proofs.NewNumbers.{one_more_done, one_less_left}
+use Rattle.whole_laws.proofs.Numbers.{size_of_sum}
 use Rattle.taylor_step.proofs.run.add_all.Goals as goal
 
 -- the sum of two numbers that were read
@@ -13,7 +13,7 @@ added : (sum number read : ℤ) → unsigned_abs sum ≤ 2 ^ 90 → unsigned_abs
 added sum number read small few e =
     let sum_fits = fits_signed_from_abs w128 sum (omega (arith, small)) in
     let number_fits = fits_signed_from_abs w128 number (omega (arith, few)) in
-    let both_fit = fits_signed_from_abs w128 (sum +ℤ number) (omega (arith, small, few, size-add sum number)) in
+    let both_fit = fits_signed_from_abs w128 (sum +ℤ number) (omega (arith, small, few, size_of_sum sum number)) in
     rw e (simp to_z-of_z refl)
 
 pub loop-i-preserved : goal.loop-i-preserved

@@ -2,9 +2,9 @@ use Rattle.std.proofs.Common.{◌≡◌, ◌<◌, ◌+◌, ◌∙◌, refl, arit
 use Rattle.named_numbers.specs.Numbers.{cells_of_month, least_degree}
 use Rattle.rate_bounds.specs.MonthPay.{plan_named}
 use Rattle.cell_coeffs.proofs.RowSteps.{made_kept}
-use Rattle.cell_coeffs.proofs.Writes.{same_places_then}
 use Rattle.thiele_backward.proofs.CellSteps.{can_step, stepped_to, near_by_spare, stands_here, answers_here}
 use Rattle.thiele_backward.proofs.CellSteps.{begins_near, constant_named, constant_here}
+use Rattle.linear_system.proofs.Made.{same_places_then}
 use Rattle.thiele_backward.proofs.month.cells_over.Goals as goal
 
 pub loop-done-init : goal.loop-done-init

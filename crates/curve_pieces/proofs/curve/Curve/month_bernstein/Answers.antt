@@ -1,7 +1,7 @@
 use Rattle.std.proofs.Common.{◌≡◌, ◌+◌, ◌-◌, length, arith, rules, ap, ◌∙◌}
 use Rattle.model_specs.specs.RecordRules.{IsBounded}
 use Rattle.model_specs.specs.MonthNumbers.{bernstein_numerators}
-use Rattle.curve_pieces.proofs.Numerators.{numerators_are}
+use Rattle.model_laws.proofs.MonthNumerators.{numerators_are}
 use Rattle.curve_pieces.proofs.Sizes.{month_fits}
 use Rattle.curve_pieces.proofs.curve.Curve.month_bernstein.Goals as goal
 

@@ -1,7 +1,7 @@
 use Rattle.std.proofs.Common.{◌≡◌, pos, get_or, length, FitsSigned, rules}
 use Rattle.std.specs.Int.{w64, w128}
 use Rattle.std.proofs.lemmas.Int.{to_z-of_z}
-use Rattle.poly_small.proofs.Sixes.{given_six}
+use Rattle.whole_laws.proofs.ShortLists.{given_six}
 use Rattle.curve_pieces.proofs.piece.Piece.in_years.Goals as goal
 
 pub returns : goal.returns

@@ -12,10 +12,7 @@ use Rattle.named_numbers.specs.Numbers.{months_of_year, bernstein_unit}
 use Rattle.model_specs.specs.MonthNumbers.{bernstein_numerator, bernstein_numerators}
 use Rattle.model_laws.specs.NumberLaws.{month_polynomial}
 use Rattle.model_laws.proofs.MonthCoefficients.{curve_numerators_stand}
-
--- equal numbers over one denominator are equal
-whole_antisym : (n m : ℤ) → n ≤ℤ m → m ≤ℤ n → n ≡ m
-whole_antisym n m h k = omega (arith, ints)
+use Rattle.whole_laws.proofs.Numbers.{whole_antisym}
 
 whole_le : (n m : ℤ) → n ≡ m → n ≤ℤ m
 whole_le n m h = omega (arith, ints)

@@ -1,5 +1,5 @@
 -- Lists of four, as arrays of four are, and two zeros behind them, which make polynomials of degree five.
-use Rattle.std.proofs.Common.{◌≡◌, ℕ, zero, suc, ◌*◌, ◌<◌, ◌≤◌, ℤ, pos, List, [], ◌∷◌, ◌++◌, length, get_or}
+use Rattle.std.proofs.Common.{◌≡◌, ℕ, zero, suc, ◌*◌, ◌<◌, ◌≤◌, ℤ, pos, List, [], ◌∷◌, ◌++◌, length}
 use Rattle.std.proofs.Common.{arith, refl, ap, sym, subst, ◌∙◌, inl, inr}
 use Rattle.std.proofs.lemmas.Bool.{cases_lt}
 use Rattle.frac_laws.specs.Polynomials.{all_over}
@@ -7,19 +7,8 @@ use Rattle.frac_laws.specs.Bernstein.{bernstein_coefficients}
 use Rattle.named_numbers.specs.Numbers.{bernstein_unit}
 use Rattle.model_specs.specs.RecordRules.{IsBounded}
 use Rattle.model_specs.specs.MonthNumbers.{coefficient_at, bernstein_numerators}
-use Rattle.curve_pieces.proofs.Numerators.{month_of, numerators_are}
-
--- the four coefficients of an array
-abbrev pub four_of : List ℤ → List ℤ
-four_of p = get_or p 0 (pos 0) ∷ get_or p 1 (pos 0) ∷ get_or p 2 (pos 0) ∷ get_or p 3 (pos 0) ∷ []
-
-pub four_are_all : (p : List ℤ) → length p ≡ 4 → p ≡ four_of p
-four_are_all [] h = absurd (omega arith)
-four_are_all (a ∷ []) h = absurd (omega arith)
-four_are_all (a ∷ b ∷ []) h = absurd (omega arith)
-four_are_all (a ∷ b ∷ c ∷ []) h = absurd (omega arith)
-four_are_all (a ∷ b ∷ c ∷ d ∷ []) h = refl
-four_are_all (a ∷ b ∷ c ∷ d ∷ e ∷ p) h = absurd (omega arith)
+use Rattle.model_laws.proofs.MonthNumerators.{month_of, numerators_are}
+use Rattle.whole_laws.proofs.ShortLists.{four_are_all}
 
 -- two zeros behind the coefficients
 abbrev pub padded : List ℤ → List ℤ
@@ -30,12 +19,12 @@ length-padded p h =
     let P : List ℤ → Type 0 = λ q. length (padded q) ≡ 6 in
     subst P (sym (four_are_all p h)) refl
 
-padded-within : (c : List ℤ) (i : ℕ) → i < length c → coefficient_at (padded c) i ≡ coefficient_at c i
+pub padded-within : (c : List ℤ) (i : ℕ) → i < length c → coefficient_at (padded c) i ≡ coefficient_at c i
 padded-within [] i inside = absurd (omega arith)
 padded-within (x ∷ c) zero inside = refl
 padded-within (x ∷ c) (suc i) inside = padded-within c i (omega arith)
 
-padded-past : (c : List ℤ) (i : ℕ) → length c ≤ i → coefficient_at (padded c) i ≡ pos 0
+pub padded-past : (c : List ℤ) (i : ℕ) → length c ≤ i → coefficient_at (padded c) i ≡ pos 0
 padded-past [] zero past = refl
 padded-past [] (suc zero) past = refl
 padded-past [] (suc (suc i)) past = refl
