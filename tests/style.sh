@@ -1,13 +1,13 @@
 #!/usr/bin/env bash
 # Counts what no proof sees of the sources: lines over 120 columns, imports that the file does not use, definitions of specs/
-# without a comment line above them, and lemma statements that stand in two crates, whatever their variables are called.
-# Each count has its limit below, 0 or a number that only falls. The last line counts what passed and what failed.
+# without a comment line above them, and lemma statements that stand in two crates, whatever their variables are called
+# (the type of a definition is no statement). Each count has its limit below, 0 or a number that only falls. The last line counts what passed and what failed.
 set -u
 cd "$(dirname "$0")/.." || exit 2
 exec python3 - <<'PYTHON'
 import collections, pathlib, re
 
-LIMITS = {"lines over 120 columns": 68, "unused imports": 1, "definitions without a line": 0, "statements in two crates": 86}
+LIMITS = {"lines over 120 columns": 1, "unused imports": 0, "definitions without a line": 0, "statements in two crates": 0}
 
 found = {name: [] for name in LIMITS}
 statements = collections.defaultdict(set)
@@ -55,7 +55,7 @@ for path in sorted(pathlib.Path("crates").glob("*/s*/**/*.*")) + sorted(pathlib.
         name = head.group(1) or head.group(2)
         if folder == "specs" and not lines[n - 1].startswith("--"):
             found["definitions without a line"].append(f"{path}:{n + 1} {name}")
-        if folder == "proofs" and "goal" not in line:
+        if folder == "proofs" and "goal" not in line and not line.startswith("abbrev "):
             end = next((k for k in range(n + 1, len(lines)) if not lines[k].startswith(" ")), len(lines))
             statement = plain(" ".join(part.strip() for part in lines[n:end]).split(name, 1)[1])
             if len(statement) > 20:

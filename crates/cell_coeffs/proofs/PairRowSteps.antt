@@ -106,7 +106,8 @@ module _ (cell : CellCurves) (h : Fraction) (i k : ℕ) (old new : StoredSystem)
   own m = elim (eqb_tells i k) [
     | inl same ↦ ap (λ d. stored_number new (S + i) (S + d) m) same.1
         ∙ (here m).none (ap (λ d. intensity_at cell i d m) (sym same.1) ∙ loop m)
-    | inr apart ↦ kept.columns (S + i) m (differ_behind i k apart.1) (λ e. absurd (omega (arith, e, next))) ∙ links.own m
+    | inr apart ↦ kept.columns (S + i) m (differ_behind i k apart.1) (λ e. absurd (omega (arith, e, next)))
+        ∙ links.own m
   ]
 
   own_coupling : (m : ℕ) → stored_number new (S + i) i m ≡ pos 0
@@ -123,7 +124,8 @@ module _ (cell : CellCurves) (h : Fraction) (i k : ℕ) (old new : StoredSystem)
     coupling = coupled;
     own = own;
     own_coupling = own_coupling;
-    later = λ c m past few. kept.columns c m (λ e. absurd (omega (arith, e, few))) (λ e. absurd (omega (arith, e, past)))
+    later = λ c m past few. kept.columns c m (λ e. absurd (omega (arith, e, few)))
+        (λ e. absurd (omega (arith, e, past)))
         ∙ links.later c m (omega (arith, past)) few;
     last = λ c m past. kept.columns c m (λ e. absurd (omega (arith, e, past)))
         (λ e. absurd (omega (arith, e, past, next))) ∙ links.last c m (omega (arith, past));
@@ -243,7 +245,8 @@ module _ (cell : CellCurves) (h : Fraction) (i : ℕ) (a b c d : StoredSystem) (
       ∙ ap (λ u. u *ℚ (whole (pos 2) *ℚ sojourn_rate_at cell i m)) (unit-same i))
       ∙ tidy (sojourn_rate_at cell i m)
     where
-      tidy : (s : Fraction) → whole (pos 2) *ℚ whole (pos 0) +ℚ whole (pos 1) *ℚ (whole (pos 2) *ℚ s) ≡ whole (pos 2) *ℚ s
+      tidy : (s : Fraction) → whole (pos 2) *ℚ whole (pos 0) +ℚ whole (pos 1) *ℚ (whole (pos 2) *ℚ s)
+          ≡ whole (pos 2) *ℚ s
       tidy s = ring (s ∷ []) (hlevel terms) refl
 
   own_at : (m : ℕ) → stored_number d (Q + i) i m ≡ stored_number b (Q + i) i m

@@ -29,7 +29,8 @@ pub fn apply_second(lumps: &[(usize, i64)], g: u32, first: &[i128], second: &mut
     requires firsts { (i : ℕ) → unsigned_abs (slice_index_or first.now i (pos 0)) ≤ 2 ^ 65 }
     requires seconds { (i : ℕ) → unsigned_abs (slice_index_or second.old i (pos 0)) ≤ 2 ^ 65 }
     ensures near { (i : ℕ) → i < length second.old → IsLumped g (amount_in lumps.now i)
-        (slice_index_or first.now i (pos 0)) (slice_index_or second.old i (pos 0)) (slice_index_or second.new i (pos 0)) }
+        (slice_index_or first.now i (pos 0)) (slice_index_or second.old i (pos 0))
+        (slice_index_or second.new i (pos 0)) }
     ensures none { (i : ℕ) → amount_in lumps.now i ≡ pos 0
         → slice_index_or second.new i (pos 0) ≡ slice_index_or second.old i (pos 0) }
 {

@@ -73,7 +73,8 @@ starts_by months starts h =
           (holds_at_places (length starts - 1) (λ k. nat_le (suc (slice_index starts k)) (slice_index starts (suc k)))
           (test 2 true (lit< tt)) k (omega (arith, b)));
       below = λ k b. leb-true (suc (slice_index starts k)) months
-          (holds_at_places (length starts) (λ k. nat_le (suc (slice_index starts k)) months) (test 3 true (lit< tt)) k b);
+          (holds_at_places (length starts) (λ k. nat_le (suc (slice_index starts k)) months)
+          (test 3 true (lit< tt)) k b);
     }
 
 -- curves
@@ -145,6 +146,7 @@ bounded_payment months steps h k b =
       amounts = λ j low. all_by (λ z. nat_le (unsigned_abs z) (10 ^ 12 * 2488320))
           (λ z. unsigned_abs z ≤ 10 ^ 12 * 2488320) (bernstein_numerators c j)
           (λ z h. leb-true (unsigned_abs z) (10 ^ 12 * 2488320) h)
-          (holds_at_places s (amounts_within c) (holds_at_places (length steps) (λ k. list_all (amounts_within (step_of steps k))
+          (holds_at_places s (amounts_within c)
+          (holds_at_places (length steps) (λ k. list_all (amounts_within (step_of steps k))
           (places (months_of months (step_starts steps) k))) (test 1 true (lit< tt)) k b) j low);
     }

@@ -18,8 +18,10 @@ pub means : PartsKeepMeans
 means p s d low high six start_low start_high end_low end_high above below =
     let P : List Fraction → Type 0 = λ q. (low ≤ℚ mean_of q) × (mean_of q ≤ℚ high) in
     subst P (sym (part_of-bernstein p s d six)) (
-      mean_above s d low _ (record { start_low = start_low; start_high = start_high; end_low = end_low; end_high = end_high }) above,
-      mean_below s d high _ (record { start_low = start_low; start_high = start_high; end_low = end_low; end_high = end_high }) below,
+      mean_above s d low _
+          (record { start_low = start_low; start_high = start_high; end_low = end_low; end_high = end_high }) above,
+      mean_below s d high _
+          (record { start_low = start_low; start_high = start_high; end_low = end_low; end_high = end_high }) below,
     )
 
 pub signs : PartsKeepSigns

@@ -45,7 +45,8 @@ product_whole v g many =
     sym (floor-multiple (v *ℤ pos (2 ^ k)) (pos (2 ^ 64)) some)
     ∙ ap (λ z. floor_of z (pos (2 ^ 64))) (product-product v (2 ^ k) (2 ^ 64) ∙ ap (λ q. v *ℤ pos q) parts)
 
-pub product_size : (v : ℤ) (g : ℕ) → unsigned_abs v ≤ 2 ^ 70 → g ≤ 56 → unsigned_abs (v *ℤ pos (2 ^ (2 * g - 64))) ≤ 2 ^ 118
+pub product_size : (v : ℤ) (g : ℕ) → unsigned_abs v ≤ 2 ^ 70 → g ≤ 56
+    → unsigned_abs (v *ℤ pos (2 ^ (2 * g - 64))) ≤ 2 ^ 118
 product_size v g small few =
     let most : 2 ^ (2 * g - 64) ≤ 2 ^ 48 = power_most (2 * g - 64) (omega (arith, few)) in
     omega (arith, unsigned_abs-mul v (pos (2 ^ (2 * g - 64))), mul-le-mul small most)

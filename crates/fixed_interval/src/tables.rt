@@ -23,8 +23,8 @@ pub struct MomentTable {
     pub variance: Table,
 }
 
-/// The value of the benefits, that of a premium of 1, and the premium that makes both equal, in millionths. They hold for
-/// the runs of this degree and of each greater one.
+/// The value of the benefits, that of a premium of 1, and the premium that makes both equal, in millionths. They hold
+/// for the runs of this degree and of each greater one.
 #[derive(Clone, Copy, Debug, PartialEq, Eq)]
 pub struct PremiumTable {
     pub degree: u8,

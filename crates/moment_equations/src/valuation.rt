@@ -88,8 +88,8 @@ pub fn moments<L: Ledger>(
     requires count { steps.old + cells_of_month * adm.now.months < 2 ^ 63 }
     ensures moments { IfOk result (AreMoments adm.now every) }
 
-    // The moments of two degrees from 8 on differ, the first ones by at most G W / 2^13, divided by 8^n, the second ones
-    // by at most 4^g Ws / 2^13, divided by 8^n, W and Ws being the radii of the date. The run of degree n solves
+    // The moments of two degrees from 8 on differ, the first ones by at most G W / 2^13, divided by 8^n, the second
+    // ones by at most 4^g Ws / 2^13, divided by 8^n, W and Ws being the radii of the date. The run of degree n solves
     // Thiele's and Norberg's equations in each cell but for a defect of at most 8^-n.
     ensures first_modulus { ReservesConverge adm.now (payment_plan adm.now) }
     ensures modulus { SecondMomentsConverge adm.now }

@@ -41,7 +41,8 @@ abbrev pub numerator-5 : List ℤ → ℤ
 numerator-5 a = whole_value_at (weighted a (pos 10 ∷ pos 10 ∷ pos 10 ∷ pos 10 ∷ pos 10 ∷ pos 10 ∷ [])) 1
 
 bernstein-0 : (a0 a1 a2 a3 a4 a5 : ℤ) (d : ℕ) → 1 ≤ d
-    → over (numerator-0 (a0 ∷ a1 ∷ a2 ∷ a3 ∷ a4 ∷ a5 ∷ [])) (d * 10) ≡ bernstein_coefficient (all_over d (a0 ∷ a1 ∷ a2 ∷ a3 ∷ a4 ∷ a5 ∷ [])) 0
+    → over (numerator-0 (a0 ∷ a1 ∷ a2 ∷ a3 ∷ a4 ∷ a5 ∷ [])) (d * 10)
+    ≡ bernstein_coefficient (all_over d (a0 ∷ a1 ∷ a2 ∷ a3 ∷ a4 ∷ a5 ∷ [])) 0
 bernstein-0 a0 a1 a2 a3 a4 a5 d h =
     over-times (numerator-0 (a0 ∷ a1 ∷ a2 ∷ a3 ∷ a4 ∷ a5 ∷ [])) d 10 h (omega arith)
     ∙ ap (λ z. over (pos 1) 10 *ℚ z)
@@ -50,7 +51,8 @@ bernstein-0 a0 a1 a2 a3 a4 a5 d h =
     (ring (over a0 d ∷ over a1 d ∷ over a2 d ∷ over a3 d ∷ over a4 d ∷ over a5 d ∷ []) (hlevel terms) refl)
 
 bernstein-1 : (a0 a1 a2 a3 a4 a5 : ℤ) (d : ℕ) → 1 ≤ d
-    → over (numerator-1 (a0 ∷ a1 ∷ a2 ∷ a3 ∷ a4 ∷ a5 ∷ [])) (d * 10) ≡ bernstein_coefficient (all_over d (a0 ∷ a1 ∷ a2 ∷ a3 ∷ a4 ∷ a5 ∷ [])) 1
+    → over (numerator-1 (a0 ∷ a1 ∷ a2 ∷ a3 ∷ a4 ∷ a5 ∷ [])) (d * 10)
+    ≡ bernstein_coefficient (all_over d (a0 ∷ a1 ∷ a2 ∷ a3 ∷ a4 ∷ a5 ∷ [])) 1
 bernstein-1 a0 a1 a2 a3 a4 a5 d h =
     over-times (numerator-1 (a0 ∷ a1 ∷ a2 ∷ a3 ∷ a4 ∷ a5 ∷ [])) d 10 h (omega arith)
     ∙ ap (λ z. over (pos 1) 10 *ℚ z)
@@ -59,7 +61,8 @@ bernstein-1 a0 a1 a2 a3 a4 a5 d h =
     (ring (over a0 d ∷ over a1 d ∷ over a2 d ∷ over a3 d ∷ over a4 d ∷ over a5 d ∷ []) (hlevel terms) refl)
 
 bernstein-2 : (a0 a1 a2 a3 a4 a5 : ℤ) (d : ℕ) → 1 ≤ d
-    → over (numerator-2 (a0 ∷ a1 ∷ a2 ∷ a3 ∷ a4 ∷ a5 ∷ [])) (d * 10) ≡ bernstein_coefficient (all_over d (a0 ∷ a1 ∷ a2 ∷ a3 ∷ a4 ∷ a5 ∷ [])) 2
+    → over (numerator-2 (a0 ∷ a1 ∷ a2 ∷ a3 ∷ a4 ∷ a5 ∷ [])) (d * 10)
+    ≡ bernstein_coefficient (all_over d (a0 ∷ a1 ∷ a2 ∷ a3 ∷ a4 ∷ a5 ∷ [])) 2
 bernstein-2 a0 a1 a2 a3 a4 a5 d h =
     over-times (numerator-2 (a0 ∷ a1 ∷ a2 ∷ a3 ∷ a4 ∷ a5 ∷ [])) d 10 h (omega arith)
     ∙ ap (λ z. over (pos 1) 10 *ℚ z)
@@ -68,7 +71,8 @@ bernstein-2 a0 a1 a2 a3 a4 a5 d h =
     (ring (over a0 d ∷ over a1 d ∷ over a2 d ∷ over a3 d ∷ over a4 d ∷ over a5 d ∷ []) (hlevel terms) refl)
 
 bernstein-3 : (a0 a1 a2 a3 a4 a5 : ℤ) (d : ℕ) → 1 ≤ d
-    → over (numerator-3 (a0 ∷ a1 ∷ a2 ∷ a3 ∷ a4 ∷ a5 ∷ [])) (d * 10) ≡ bernstein_coefficient (all_over d (a0 ∷ a1 ∷ a2 ∷ a3 ∷ a4 ∷ a5 ∷ [])) 3
+    → over (numerator-3 (a0 ∷ a1 ∷ a2 ∷ a3 ∷ a4 ∷ a5 ∷ [])) (d * 10)
+    ≡ bernstein_coefficient (all_over d (a0 ∷ a1 ∷ a2 ∷ a3 ∷ a4 ∷ a5 ∷ [])) 3
 bernstein-3 a0 a1 a2 a3 a4 a5 d h =
     over-times (numerator-3 (a0 ∷ a1 ∷ a2 ∷ a3 ∷ a4 ∷ a5 ∷ [])) d 10 h (omega arith)
     ∙ ap (λ z. over (pos 1) 10 *ℚ z)
@@ -77,20 +81,24 @@ bernstein-3 a0 a1 a2 a3 a4 a5 d h =
     (ring (over a0 d ∷ over a1 d ∷ over a2 d ∷ over a3 d ∷ over a4 d ∷ over a5 d ∷ []) (hlevel terms) refl)
 
 bernstein-4 : (a0 a1 a2 a3 a4 a5 : ℤ) (d : ℕ) → 1 ≤ d
-    → over (numerator-4 (a0 ∷ a1 ∷ a2 ∷ a3 ∷ a4 ∷ a5 ∷ [])) (d * 10) ≡ bernstein_coefficient (all_over d (a0 ∷ a1 ∷ a2 ∷ a3 ∷ a4 ∷ a5 ∷ [])) 4
+    → over (numerator-4 (a0 ∷ a1 ∷ a2 ∷ a3 ∷ a4 ∷ a5 ∷ [])) (d * 10)
+    ≡ bernstein_coefficient (all_over d (a0 ∷ a1 ∷ a2 ∷ a3 ∷ a4 ∷ a5 ∷ [])) 4
 bernstein-4 a0 a1 a2 a3 a4 a5 d h =
     over-times (numerator-4 (a0 ∷ a1 ∷ a2 ∷ a3 ∷ a4 ∷ a5 ∷ [])) d 10 h (omega arith)
     ∙ ap (λ z. over (pos 1) 10 *ℚ z)
-    (over-whole_value (weighted (take 5 (a0 ∷ a1 ∷ a2 ∷ a3 ∷ a4 ∷ a5 ∷ [])) (pos 10 ∷ pos 8 ∷ pos 6 ∷ pos 4 ∷ pos 2 ∷ [])) 1 d)
+    (over-whole_value (weighted (take 5 (a0 ∷ a1 ∷ a2 ∷ a3 ∷ a4 ∷ a5 ∷ []))
+    (pos 10 ∷ pos 8 ∷ pos 6 ∷ pos 4 ∷ pos 2 ∷ [])) 1 d)
     ∙ simp over-product
     (ring (over a0 d ∷ over a1 d ∷ over a2 d ∷ over a3 d ∷ over a4 d ∷ over a5 d ∷ []) (hlevel terms) refl)
 
 bernstein-5 : (a0 a1 a2 a3 a4 a5 : ℤ) (d : ℕ) → 1 ≤ d
-    → over (numerator-5 (a0 ∷ a1 ∷ a2 ∷ a3 ∷ a4 ∷ a5 ∷ [])) (d * 10) ≡ bernstein_coefficient (all_over d (a0 ∷ a1 ∷ a2 ∷ a3 ∷ a4 ∷ a5 ∷ [])) 5
+    → over (numerator-5 (a0 ∷ a1 ∷ a2 ∷ a3 ∷ a4 ∷ a5 ∷ [])) (d * 10)
+    ≡ bernstein_coefficient (all_over d (a0 ∷ a1 ∷ a2 ∷ a3 ∷ a4 ∷ a5 ∷ [])) 5
 bernstein-5 a0 a1 a2 a3 a4 a5 d h =
     over-times (numerator-5 (a0 ∷ a1 ∷ a2 ∷ a3 ∷ a4 ∷ a5 ∷ [])) d 10 h (omega arith)
     ∙ ap (λ z. over (pos 1) 10 *ℚ z)
-    (over-whole_value (weighted (a0 ∷ a1 ∷ a2 ∷ a3 ∷ a4 ∷ a5 ∷ []) (pos 10 ∷ pos 10 ∷ pos 10 ∷ pos 10 ∷ pos 10 ∷ pos 10 ∷ [])) 1 d)
+    (over-whole_value (weighted (a0 ∷ a1 ∷ a2 ∷ a3 ∷ a4 ∷ a5 ∷ [])
+    (pos 10 ∷ pos 10 ∷ pos 10 ∷ pos 10 ∷ pos 10 ∷ pos 10 ∷ [])) 1 d)
     ∙ simp over-product
     (ring (over a0 d ∷ over a1 d ∷ over a2 d ∷ over a3 d ∷ over a4 d ∷ over a5 d ∷ []) (hlevel terms) refl)
 
@@ -100,7 +108,8 @@ numerators a = numerator-0 a ∷ numerator-1 a ∷ numerator-2 a ∷
     numerator-3 a ∷ numerator-4 a ∷ numerator-5 a ∷ []
 
 six_numerators : (a0 a1 a2 a3 a4 a5 : ℤ) (d : ℕ) → 1 ≤ d
-    → all_over (d * 10) (numerators (a0 ∷ a1 ∷ a2 ∷ a3 ∷ a4 ∷ a5 ∷ [])) ≡ bernstein_coefficients (all_over d (a0 ∷ a1 ∷ a2 ∷ a3 ∷ a4 ∷ a5 ∷ []))
+    → all_over (d * 10) (numerators (a0 ∷ a1 ∷ a2 ∷ a3 ∷ a4 ∷ a5 ∷ []))
+    ≡ bernstein_coefficients (all_over d (a0 ∷ a1 ∷ a2 ∷ a3 ∷ a4 ∷ a5 ∷ []))
 six_numerators a0 a1 a2 a3 a4 a5 d h =
     ap₂ (λ z w. z ∷ w) (bernstein-0 a0 a1 a2 a3 a4 a5 d h)
     (ap₂ (λ z w. z ∷ w) (bernstein-1 a0 a1 a2 a3 a4 a5 d h)

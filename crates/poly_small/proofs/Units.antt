@@ -38,7 +38,8 @@ in_units-stretched c [] d u positive unit =
     ap (λ z. z ∷ []) (over_scale c d (u ^ 0) positive (positive_power u 0 unit))
 in_units-stretched c (e ∷ p) d u positive unit =
     ap₂ (λ z zs. z ∷ zs) (over_scale c d (u ^ suc (length p)) positive (positive_power u (suc (length p)) unit))
-    (ap (λ m. all_over m (in_units_of u (e ∷ p))) (ap (λ z. d * z) (pow-suc u (length p)) ∙ power_moves d (u ^ length p) u)
+    (ap (λ m. all_over m (in_units_of u (e ∷ p)))
+    (ap (λ z. d * z) (pow-suc u (length p)) ∙ power_moves d (u ^ length p) u)
     ∙ all_over-times (in_units_of u (e ∷ p)) (d * u ^ length p) u
     (product_positive d (u ^ length p) positive (positive_power u (length p) unit)) unit
     ∙ ap (scale_list (over (pos 1) u)) (in_units-stretched e p d u positive unit))
@@ -56,7 +57,8 @@ pub in_units_polynomial : (p : List ℤ) (d u : ℕ) → length p ≡ 6 → 1 �
 in_units_polynomial p d u h positive unit =
     let P : List ℤ → Type 0 =
     λ q. all_over (d * u ^ 5) (in_units_of u q) ≡ stretched (over (pos 1) u) (all_over d q) in
-    subst P (sym (six_are_all p h)) (in_units-stretched (get_or p 0 (pos 0)) (get_or p 1 (pos 0) ∷ get_or p 2 (pos 0) ∷ get_or p 3 (pos 0) ∷
+    subst P (sym (six_are_all p h))
+    (in_units-stretched (get_or p 0 (pos 0)) (get_or p 1 (pos 0) ∷ get_or p 2 (pos 0) ∷ get_or p 3 (pos 0) ∷
     get_or p 4 (pos 0) ∷ get_or p 5 (pos 0) ∷ []) d u positive unit)
 
 -- the numbers that the change of units forms
@@ -83,7 +85,8 @@ pub units_fit : (p : List ℤ) (u : ℕ) → length p ≡ 6 → value_of_sizes (
 units_fit p u h =
     let P : List ℤ → Type 0 = λ q. value_of_sizes (in_units_of u q) 1 < 2 ^ 126 → UnitsFit q u in
     subst P (sym (six_are_all p h)) (six_units_fit
-    (get_or p 0 (pos 0)) (get_or p 1 (pos 0)) (get_or p 2 (pos 0)) (get_or p 3 (pos 0)) (get_or p 4 (pos 0)) (get_or p 5 (pos 0)) u)
+    (get_or p 0 (pos 0)) (get_or p 1 (pos 0)) (get_or p 2 (pos 0)) (get_or p 3 (pos 0)) (get_or p 4 (pos 0))
+    (get_or p 5 (pos 0)) u)
 
 -- lower powers of a unit are no greater
 pub lower_power : (u m : ℕ) → 1 ≤ m → m ≤ 5 → u ^ 5 < 2 ^ 126 → u ^ m < 2 ^ 126
@@ -119,7 +122,8 @@ products_are_in_units p u r0 r1 r2 r3 r4 h =
     let P : List ℤ → Type 0 = λ q. ProductsAre q u r0 r1 r2 r3 r4
     → r0 ∷ r1 ∷ r2 ∷ r3 ∷ r4 ∷ get_or q 5 (pos 0) ∷ [] ≡ in_units_of u q in
     subst P (sym (six_are_all p h)) (six_products
-    (get_or p 0 (pos 0)) (get_or p 1 (pos 0)) (get_or p 2 (pos 0)) (get_or p 3 (pos 0)) (get_or p 4 (pos 0)) (get_or p 5 (pos 0)) r0 r1 r2 r3 r4 u)
+    (get_or p 0 (pos 0)) (get_or p 1 (pos 0)) (get_or p 2 (pos 0)) (get_or p 3 (pos 0)) (get_or p 4 (pos 0))
+    (get_or p 5 (pos 0)) r0 r1 r2 r3 r4 u)
 
 -- reflection
 abbrev pub turned : List ℤ → List ℤ
@@ -145,7 +149,8 @@ pub turned_is_reflected : (p : List ℤ) (d : ℕ) → length p ≡ 6
 turned_is_reflected p d h =
     let P : List ℤ → Type 0 = λ q. all_over d (turned q) ≡ reflected (all_over d q) in
     subst P (sym (six_are_all p h)) (six_turned
-    (get_or p 0 (pos 0)) (get_or p 1 (pos 0)) (get_or p 2 (pos 0)) (get_or p 3 (pos 0)) (get_or p 4 (pos 0)) (get_or p 5 (pos 0)) d)
+    (get_or p 0 (pos 0)) (get_or p 1 (pos 0)) (get_or p 2 (pos 0)) (get_or p 3 (pos 0)) (get_or p 4 (pos 0))
+    (get_or p 5 (pos 0)) d)
 
 size_turned : (n : ℤ) → unsigned_abs (pos 0 -ℤ n) ≡ unsigned_abs n
 size_turned n = omega (arith, ints)
@@ -159,7 +164,8 @@ pub turned_sizes : (p : List ℤ) (x : ℕ) → length p ≡ 6 → value_of_size
 turned_sizes p x h =
     let P : List ℤ → Type 0 = λ q. value_of_sizes (turned q) x ≡ value_of_sizes q x in
     subst P (sym (six_are_all p h)) (six_sizes
-    (get_or p 0 (pos 0)) (get_or p 1 (pos 0)) (get_or p 2 (pos 0)) (get_or p 3 (pos 0)) (get_or p 4 (pos 0)) (get_or p 5 (pos 0)) x)
+    (get_or p 0 (pos 0)) (get_or p 1 (pos 0)) (get_or p 2 (pos 0)) (get_or p 3 (pos 0)) (get_or p 4 (pos 0))
+    (get_or p 5 (pos 0)) x)
 
 -- a coefficient and its opposite fit
 pub turned_fits : (p : List ℤ) (i : ℕ) → i < length p → value_of_sizes p 1 < 2 ^ 126

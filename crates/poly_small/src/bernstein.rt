@@ -16,7 +16,8 @@ impl Poly {
     pub fn month_bernstein(&self, k: u32) -> [i128; 6]
         requires { 320 * value_of_sizes (in_units_of 12 self.now.c) (max k 1) < 2 ^ 126 }
         ensures polynomial { (den : ℕ) → 1 ≤ den → all_over (2488320 * den) result
-            ≡ bernstein_coefficients (stretched (over (pos 1) 12) (shifted (over (pos k) 12) (all_over den self.now.c))) }
+            ≡ bernstein_coefficients
+                (stretched (over (pos 1) 12) (shifted (over (pos k) 12) (all_over den self.now.c))) }
         ensures size { (j : ℕ) → unsigned_abs (slice_index_or result j (pos 0))
             ≤ 320 * value_of_sizes (in_units_of 12 self.now.c) (max k 1) }
     {
@@ -26,7 +27,8 @@ impl Poly {
     // Ten times the Bernstein coefficients on [0, 1].
     fn bernstein(&self) -> [i128; 6]
         requires { 10 * value_of_sizes self.now.c 1 < 2 ^ 126 }
-        ensures polynomial { (den : ℕ) → 1 ≤ den → all_over (den * 10) result ≡ bernstein_coefficients (all_over den self.now.c) }
+        ensures polynomial { (den : ℕ) → 1 ≤ den → all_over (den * 10) result
+            ≡ bernstein_coefficients (all_over den self.now.c) }
         ensures size { (j : ℕ) → unsigned_abs (slice_index_or result j (pos 0)) ≤ 10 * value_of_sizes self.now.c 1 }
     {
         let c = &self.c;

@@ -144,7 +144,8 @@ exchange_is_allowed months a some most small =
     (record {
       states = All-two (λ (s : Sojourn). s.state < 2) (steady_in a 0) (steady_in a 1) (omega arith) (omega arith);
       distinct = two_places;
-      sojourns = All-two (λ s. IsPayment months s.steps) (steady_in a 0) (steady_in a 1) (steady_is_payment months a some)
+      sojourns = All-two (λ s. IsPayment months s.steps) (steady_in a 0) (steady_in a 1)
+          (steady_is_payment months a some)
           (steady_is_payment months a some);
       sums = All-two (λ steps. 1 ≤ length steps → IsPayment months steps) (steady a) (steady a)
           (λ h. steady_is_payment months a some) (λ h. steady_is_payment months a some);

@@ -57,8 +57,10 @@ fn exit_pay(product: &Product, which: Which, transition: usize, month: u32) -> u
 fn exits_pay(product: &Product, which: Which, exits: &[Edge], month: u32) -> u128
     requires month { month < product.now.months }
     requires within { All (λ exit. exit.transition < length product.now.transitions) exits.now }
-    requires fits { exits_pay product.now (plan_named which product.now) month (map (λ exit. exit.transition) exits.now) < 2 ^ 127 }
-    ensures { result ≡ exits_pay product.now (plan_named which product.now) month (map (λ exit. exit.transition) exits.now) }
+    requires fits { exits_pay product.now (plan_named which product.now) month
+        (map (λ exit. exit.transition) exits.now) < 2 ^ 127 }
+    ensures { result ≡ exits_pay product.now (plan_named which product.now) month
+        (map (λ exit. exit.transition) exits.now) }
 {
     let mut sum = 0;
     for exit in exits {
@@ -81,7 +83,8 @@ fn paid_in_state(product: &Product, which: Which, state: usize, month: u32) -> u
 // The most that a state pays.
 fn greatest_paid(product: &Product, which: Which, month: u32) -> u128
     requires month { month < product.now.months }
-    requires fits { (i : ℕ) → i < length product.now.states → paid_in_state product.now (plan_named which product.now) month i < 2 ^ 117 }
+    requires fits { (i : ℕ) → i < length product.now.states
+        → paid_in_state product.now (plan_named which product.now) month i < 2 ^ 117 }
     ensures value { result ≡ greatest_paid product.now (plan_named which product.now) month }
     ensures most { result < 2 ^ 117 }
 {

@@ -39,7 +39,8 @@ pub(crate) fn radii_back(
 ) -> Result<Vec<u128>, AllocError>
     requires rules { ObeysAllMonths product.now }
     requires table { AreBoundsUpTo product.now product.now.months bounds.now }
-    ensures { IfOk result (λ radii. radii.items ≡ list_of (suc product.now.months) (ledgers.radius_before_term product.now)) }
+    ensures { IfOk result (λ radii. radii.items
+        ≡ list_of (suc product.now.months) (ledgers.radius_before_term product.now)) }
 {
     radii_stay_small();
     let months = product.months();
@@ -61,7 +62,8 @@ pub(crate) fn radii_forward(
 ) -> Result<Vec<u128>, AllocError>
     requires rules { ObeysAllMonths product.now }
     requires table { AreBoundsUpTo product.now product.now.months bounds.now }
-    ensures { IfOk result (λ radii. radii.items ≡ list_of (suc product.now.months) (ledgers.radius_forward product.now)) }
+    ensures { IfOk result (λ radii. radii.items
+        ≡ list_of (suc product.now.months) (ledgers.radius_forward product.now)) }
 {
     radii_stay_small();
     let months = product.months();

@@ -33,7 +33,8 @@ fn month_back(
     requires some { 1 ≤ largest }
     requires largest { largest ≤ 2 ^ 56 }
     requires first { (k : ℕ) → k ≤ 32 → radius_step product.now month w k ≤ 2 ^ 40 }
-    requires fits { (k : ℕ) → k ≤ 32 → second_step product.now (payment_plan product.now) largest month w second k ≤ 2 ^ 80 }
+    requires fits { (k : ℕ) → k ≤ 32
+        → second_step product.now (payment_plan product.now) largest month w second k ≤ 2 ^ 80 }
     ensures { result ≡ second_step product.now (payment_plan product.now) largest month w second 32 }
 {
     let kappa40 = kappa_at(product, bounds, month);
@@ -56,7 +57,8 @@ pub(crate) fn second_radii(
     requires scale { scale ≡ ledgers.scale product.now (payment_plan product.now) }
     requires most { scale ≤ 56 }
     ensures { IfOk result (λ seconds. seconds.items
-        ≡ list_of (suc product.now.months) (ledgers.second_before_term product.now (payment_plan product.now) (2 ^ scale))) }
+        ≡ list_of (suc product.now.months)
+            (ledgers.second_before_term product.now (payment_plan product.now) (2 ^ scale))) }
 {
     radii_stay_small();
     second_stays_small();

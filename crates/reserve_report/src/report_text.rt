@@ -124,9 +124,9 @@ fn rows_bytes(alloc: Global, product: &Product, report: &Report) -> Result<Vec<u
     Ok(bytes)
 }
 
-/// The text of a report about a product. Each column is told of each row, the rows in order and for each row the columns
-/// in order, and then the columns stand below the rows. Where memory is refused, a column keeps the lines of the rows
-/// that it was told of.
+/// The text of a report about a product. Each column is told of each row, the rows in order and for each row the
+/// columns in order, and then the columns stand below the rows. Where memory is refused, a column keeps the lines of
+/// the rows that it was told of.
 pub fn report_bytes(
     alloc: Global,
     product: &Product,

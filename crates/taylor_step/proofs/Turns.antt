@@ -50,7 +50,8 @@ pub new_is : (s : StoredSystem) (mid start newest : List ℤ) (k : ℕ) (strips 
     → (i : ℕ) → i < dim_of s → get_or newest i (pos 0) ≡ coefficient s mid (suc k) i
 unfolding past
 new_is s mid start newest k strips sys is_start history done i b =
-    done i b ∙ ap (λ z. floor_of z (pos (2 ^ 64 * (k + 1)))) (products_are s mid start k strips sys is_start history i b)
+    done i b ∙ ap (λ z. floor_of z (pos (2 ^ 64 * (k + 1))))
+        (products_are s mid start k strips sys is_start history i b)
     ∙ rw add-one refl
 
 pub history_more : (s : StoredSystem) (mid newest : List ℤ) (k : ℕ) (old new : List (List ℤ)) → IsSystem s

@@ -60,7 +60,8 @@ pieces_pass_8 : (tree : Members) (items : List Data) (n months : ℕ) (f : ℕ �
 pieces_pass_8 tree items n months f is some within term format starts pieces =
     rw (is, term, format, length-list_of n f)
     (some_places_pass n (λ i. is_piece 4 (item_at (list_of n f) i) && is_in_order (pos months) (list_of n f) i) some
-    (λ i below. passes_both _ _ (rw (at-list_of n f i _ below) (pieces i)) (starts_in_order n f months starts within i below)))
+    (λ i below. passes_both _ _ (rw (at-list_of n f i _ below) (pieces i))
+    (starts_in_order n f months starts within i below)))
 
 years_pass_8 : (tree : Members) (t : Transition) (x : ℕ) → whole_of (codes "months") tree ≡ pos 780
     → is_format_1 tree ≡ true → first_failed (rule_8_of tree (listed (items_of (rate t x)))) ≡ None

@@ -56,7 +56,8 @@ pieces_of seed t = rate_pieces t (state_before (state_after seed 1) t)
 -- rule 16
 natural_list : (numbers : List ℤ) → All (IsUpTo quarter) numbers → list_all (int_le (pos 0)) numbers ≡ true
 natural_list [] all = refl
-natural_list (z ∷ numbers) all = passes_both (int_le (pos 0) z) _ (natural z (All-head (IsUpTo quarter) z numbers all).0)
+natural_list (z ∷ numbers) all = passes_both (int_le (pos 0) z) _
+    (natural z (All-head (IsUpTo quarter) z numbers all).0)
     (natural_list numbers (All-tail (IsUpTo quarter) z numbers all))
   where
     natural : (z : ℤ) → pos 0 ≤ℤ z → int_le (pos 0) z ≡ true

@@ -75,7 +75,8 @@ module _ (tree : Members) (amount n months : ℕ) (items : lump_items tree ≡ l
       most a b h = grind (arith, ints)
 
   good_after : (k : ℕ) → k < n → is_good_after tree (lump amount k) (take k (list_of n (lump amount))) ≡ true
-  good_after k below = passes_both _ _ (passes_both _ _ (passes_both _ _ (passes_both true _ refl (rw term (dated k (omega arith)))) state)
+  good_after k below = passes_both _ _
+      (passes_both _ _ (passes_both _ _ (passes_both true _ refl (rw term (dated k (omega arith)))) state)
       (at_most amount (10 ^ 12) small))
       (ap not (none_earlier (λ e. is_same_pair (date_and_state (lump_of tree (lump amount k)))
       (date_and_state (lump_of tree e))) n k (lump amount) (other_month k)))

@@ -24,7 +24,8 @@ pub returns-clause-ok : goal.returns-clause-ok
 returns-clause-ok c = record {
   admissible = record {
     well_formed = c.bound1024-bound.ensures.lawful;
-    valuation = nothing_is_broken c.args.product.now c.bound1024-bound.result (sym c.requires.rules) c.bound1024-bound.ensures.value
+    valuation = nothing_is_broken c.args.product.now c.bound1024-bound.result
+        (sym c.requires.rules) c.bound1024-bound.ensures.value
         c.if-bound-gt-MOST_BOUND.false;
   };
   ledgers = c.in_ok-ledgers_of.ensures;

@@ -7,4 +7,5 @@ use Rattle.rate_bounds.proofs.pay.exits_pay.Given as goal
 abbrev pub invariant-loop-exit : goal.invariant-loop-exit
 invariant-loop-exit l =
     l.sum
-    ≡ exits_pay l.product (plan_named l.which l.product) l.month (map (λ exit. exit.transition) (take l.exit-index l.exits))
+    ≡ exits_pay l.product (plan_named l.which l.product) l.month
+    (map (λ exit. exit.transition) (take l.exit-index l.exits))

@@ -12,14 +12,16 @@ greatest_paid-requires-clause-fits c =
       c.month_unit-unit.ensures.value,
       c.month_unit-unit.ensures.most,
     ) in
-    little_is_paid c.pay_is_small.ensures.payments c.pay_is_small.ensures.pattern c.args.which c.args.product.now c.args.month
+    little_is_paid c.pay_is_small.ensures.payments c.pay_is_small.ensures.pattern c.args.which c.args.product.now
+        c.args.month
     c.month_unit-unit.ensures.lawful c.requires.rules c.requires.month unit
 
 pub returns : goal.returns
 returns c =
     c.div_ceil.ensures
     ∙ ap (λ n. div_ceil (1024 * n) (192 * c.month_unit-unit.result)) c.greatest_paid.ensures.value
-    ∙ ap (λ n. div_ceil (1024 * greatest_paid c.args.product.now (plan_named c.args.which c.args.product.now) c.args.month)
+    ∙ ap (λ n. div_ceil (1024 * greatest_paid c.args.product.now (plan_named c.args.which c.args.product.now)
+    c.args.month)
     (192 * n))
     c.month_unit-unit.ensures.value
     ∙ sym (pay_is c.args.product.now (plan_named c.args.which c.args.product.now) c.args.month)

@@ -24,12 +24,12 @@ pub overflow_add-result : goal.overflow_add-result
 overflow_add-result c =
     whole_fits (c.loop-back.bound + 1024 * c.from.result) (bound1024 c.args.product.now (plan_named c.args.which
     c.args.product.now))
-    (bound_is_whole c.args.product.now (plan_named c.args.which c.args.product.now) c.loop-back.back c.loop-back.bound c.from.result
-    (omega arith) c.loop-back.invariant (c.from.ensures ∙ c.greatest_lump.ensures))
+    (bound_is_whole c.args.product.now (plan_named c.args.which c.args.product.now) c.loop-back.back c.loop-back.bound
+    c.from.result (omega arith) c.loop-back.invariant (c.from.ensures ∙ c.greatest_lump.ensures))
     (bound_is_small c.plan_bound_stays_small.ensures.payments c.pattern_bound_stays_small.ensures c.args.which
     c.args.product.now c.months-months.ensures.lawful c.requires.rules)
 
 pub returns-clause-value : goal.returns-clause-value
 returns-clause-value c =
-    bound_is_whole c.args.product.now (plan_named c.args.which c.args.product.now) c.loop-back.back c.loop-back.bound c.from.result
-    (omega arith) c.loop-back.invariant (c.from.ensures ∙ c.greatest_lump.ensures)
+    bound_is_whole c.args.product.now (plan_named c.args.which c.args.product.now) c.loop-back.back c.loop-back.bound
+    c.from.result (omega arith) c.loop-back.invariant (c.from.ensures ∙ c.greatest_lump.ensures)

@@ -15,10 +15,12 @@ pub loop-back-preserved : goal.loop-back-preserved
 loop-back-preserved c =
     let months = c.months-months.ensures.value in
     record {
-      dates = one_date_more (radius_before_term c.args.product.now) c.loop-back.back c.loop-back.w c.loop-back.radii.items _
+      dates = one_date_more (radius_before_term c.args.product.now) c.loop-back.back c.loop-back.w
+          c.loop-back.radii.items _
           c.loop-back.invariant.dates c.loop-back.invariant.next c.in_ok-push.ensures.items;
       next = c.over_month-w.ensures
-          ∙ radius_goes_back c.args.product.now c.loop-back.back (c.months-months.result - 1 - c.loop-back.back) c.loop-back.w
+          ∙ radius_goes_back c.args.product.now c.loop-back.back (c.months-months.result - 1 - c.loop-back.back)
+          c.loop-back.w
           (omega arith) (omega arith) c.loop-back.invariant.next;
     }
 

@@ -20,7 +20,8 @@ loop-exit-preserved c =
     let fits : FitsSigned w128 total =
     small_sum_fits (c.loop-exit.exit-index + 1) total (omega (arith, c.loop-exit-test.true, c.requires.few)) size in
     simp to_z-of_z (
-      rate_sum_more c.args.product.now c.args.month c.args.exits.now c.loop-exit.exit-index _ _ c.greatest_rate-sum.result
+      rate_sum_more c.args.product.now c.args.month c.args.exits.now c.loop-exit.exit-index _ _
+          c.greatest_rate-sum.result
           c.loop-exit-test.true c.loop-exit.invariant.0 c.greatest_rate-sum.ensures.value,
       size,
     )

@@ -8,7 +8,8 @@ use Rattle.rate_bounds.proofs.sums.greatest_sum_size.Goals as goal
 pub loop-transition-preserved : goal.loop-transition-preserved
 loop-transition-preserved c = record {
   greatest = c.max-most.ensures
-      ∙ greatest_paid_more c.loop-transition.transition (sum_size_of c.args.product.now (payment_plan c.args.product.now))
+      ∙ greatest_paid_more c.loop-transition.transition
+      (sum_size_of c.args.product.now (payment_plan c.args.product.now))
       c.loop-transition.most c.sum_size.result c.loop-transition.invariant.greatest c.sum_size.ensures.value;
   small = omega (arith, c.max-most.ensures, c.sum_size.ensures.most, c.loop-transition.invariant.small);
 }

@@ -1,4 +1,5 @@
-use Rattle.std.proofs.Common.{◌<◌, ◌+◌, ◌*◌, ◌^◌, pos, get_or, length, FitsSigned, arith, rules, ap, ◌∙◌, Vec, Global, ℤ}
+use Rattle.std.proofs.Common.{◌<◌, ◌+◌, ◌*◌, ◌^◌, pos, get_or, length, FitsSigned, arith, rules, ap, ◌∙◌, Vec}
+use Rattle.std.proofs.Common.{Global, ℤ}
 use Rattle.std.specs.Int.{w64, w128}
 use Rattle.std.proofs.lemmas.Int.{to_z-of_z}
 use Rattle.frac_laws.specs.Rounding.{floor_of}
@@ -28,7 +29,8 @@ loop-i-preserved c =
     c.from_start-given.result c.numbers.result.now c.columns.result.now c.deref.result.now c.from_start-given.ensures
     c.numbers.ensures c.columns.ensures
     (strip_is c.args.sys.now c.args.strips.now c.loop-i.i c.index-strips-i.result _ c.requires.room row
-    (c.deref.ensures.value ∙ ap (λ (v : Vec ℤ Global). v.items) c.index-strips-i.is)) c.new_number.result _ (simp to_z-of_z at c.new_number.ensures)
+    (c.deref.ensures.value ∙ ap (λ (v : Vec ℤ Global). v.items) c.index-strips-i.is)) c.new_number.result _
+    (simp to_z-of_z at c.new_number.ensures)
     (omega (arith, c.requires.power)) in
     record {
       done = one_more_done c.loop-i.newest

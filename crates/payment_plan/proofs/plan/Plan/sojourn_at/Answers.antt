@@ -1,4 +1,5 @@
-use Rattle.std.proofs.Common.{◌≡◌, ◌-◌, ◌+◌, pos, Bool, true, false, FitsSigned, arith, rules, refl, ap, sym, subst, ◌∙◌}
+use Rattle.std.proofs.Common.{◌≡◌, ◌-◌, ◌+◌, pos, Bool, true, false, FitsSigned, arith, rules, refl, ap, sym}
+use Rattle.std.proofs.Common.{subst, ◌∙◌}
 use Rattle.std.specs.Int.{from_bool, w64}
 use Rattle.std.proofs.lemmas.Int.{to_z-of_z}
 use Rattle.model_specs.specs.Product.{Step}
