@@ -8,7 +8,7 @@ ghost use Rattle.named_numbers.specs.declared.numbers.TheConstants.{MOST_MONTHS,
 ghost use Rattle.named_numbers.specs.declared.numbers.TheConstants.{LONGEST_STATE_NAME, MOST_DENOMINATOR, MOST_AMOUNT};
 ghost use Rattle.named_numbers.specs.declared.numbers.TheConstants.{MOST_COEFFICIENT, MOST_LUMP, MOST_EVERY};
 ghost use Rattle.named_numbers.specs.declared.numbers.TheConstants.{MOST_FILE_BYTES, BERNSTEIN_UNIT, PAY_UNIT};
-ghost use Rattle.named_numbers.specs.declared.numbers.TheConstants.{CELL_ROUNDING, MOST_BOUND};
+ghost use Rattle.named_numbers.specs.declared.numbers.TheConstants.{CELL_ROUNDING, LEAST_DEGREE, MOST_BOUND};
 
 /// The months of a year.
 pub const MONTHS_OF_YEAR: u32 = 12;
@@ -64,6 +64,9 @@ pub const PAY_UNIT: u128 = 1024;
 /// What the ledger of radii counts for a cell, in units of 2^-64.
 pub const CELL_ROUNDING: u128 = 1024;
 
+/// The least degree that a step answers.
+pub const LEAST_DEGREE: u8 = 8;
+
 /// The greatest bound of a product's moments, in 1/1024 minor units.
 pub const MOST_BOUND: u128 = 1 << 66;
 
@@ -87,5 +90,6 @@ pub fn named_numbers_agree()
     ensures bernstein_unit { BERNSTEIN_UNIT ≡ numbers.bernstein_unit }
     ensures pay_unit { PAY_UNIT ≡ numbers.pay_unit }
     ensures cell_rounding { CELL_ROUNDING ≡ numbers.cell_rounding }
+    ensures least_degree { LEAST_DEGREE ≡ numbers.least_degree }
     ensures most_bound { MOST_BOUND ≡ numbers.most_bound }
 {}
