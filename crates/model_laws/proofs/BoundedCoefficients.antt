@@ -10,8 +10,8 @@ use Rattle.named_numbers.specs.Numbers.{most_coefficient}
 
 -- coefficients whose test holds are bounded
 pub bounded_from_test : (c : List ℤ) (s : ℕ) → is_bounded c s ≡ true → IsBounded c s
-bounded_from_test c s h i b = leb-true (unsigned_abs (coefficient_at c i) * s ^ i) (10 ^ 22)
-    (holds_at_places (length c) (λ i. nat_le (unsigned_abs (coefficient_at c i) * s ^ i) (10 ^ 22)) h i b)
+bounded_from_test c s h i b = leb-true (unsigned_abs (coefficient_at c i) * s ^ i) most_coefficient
+    (holds_at_places (length c) (λ i. nat_le (unsigned_abs (coefficient_at c i) * s ^ i) most_coefficient) h i b)
 
 -- and so they are over fewer months
 pub bounded_shorter : (c : List ℤ) (s t : ℕ) → s ≤ t → IsBounded c t → IsBounded c s
