@@ -34,11 +34,12 @@ impl Interval {
     }
 
     // The products of its numbers by one number, rounded outward once.
-    fn times(&self, number: i128) -> Interval
+    pub(crate) fn times(&self, number: i128) -> Interval
         requires first { HasEndsUpTo (2 ^ 66) self.now }
         requires second { unsigned_abs number ≤ 2 ^ 66 }
         ensures lo { result.lo ≡ low_end number self.now }
         ensures hi { result.hi ≡ high_end number self.now }
+        ensures size { HasEndsUpTo (2 ^ 68) result }
     {
         Interval {
             lo: floor_product(number, self.lo).min(floor_product(number, self.hi)),
