@@ -53,6 +53,7 @@ impl Interval {
         requires second { HasEndsUpTo (2 ^ 66) o.now }
         ensures lo { result.lo ≡ floor_of (least_product self.now o.now) (pos (2 ^ 64)) }
         ensures hi { result.hi ≡ ceiling_of (greatest_product self.now o.now) (pos (2 ^ 64)) }
+        ensures size { HasEndsUpTo (2 ^ 68) result }
         ensures encloses { (x y : Fraction) → LiesIn x self.now → LiesIn y o.now → LiesIn (x *ℚ y) result }
     {
         let of_lo = o.times(self.lo);
