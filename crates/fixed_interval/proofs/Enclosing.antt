@@ -17,13 +17,13 @@ use Rattle.fixed_interval.specs.Products.{least_product, greatest_product}
 use Rattle.fixed_interval.proofs.Ends.{of_least, of_greatest, least_le_left, least_le_right}
 use Rattle.fixed_interval.proofs.Ends.{left_le_greatest, right_le_greatest}
 
-abbrev units : ℤ → Fraction
+abbrev pub units : ℤ → Fraction
 units n = over n (2 ^ 64)
 
-abbrev small_units : ℤ → Fraction
+abbrev pub small_units : ℤ → Fraction
 small_units n = over n (2 ^ 64 * 2 ^ 64)
 
-units_mul : (n m : ℤ) → units n *ℚ units m ≡ small_units (n *ℤ m)
+pub units_mul : (n m : ℤ) → units n *ℚ units m ≡ small_units (n *ℤ m)
 units_mul n m = over_mul n m (2 ^ 64) (2 ^ 64) (omega arith) (omega arith)
 
 small_units_le : (n m : ℤ) → n ≤ℤ m → small_units n ≤ℚ small_units m
@@ -31,7 +31,7 @@ small_units_le n m h =
     over_le_of_cross n m (2 ^ 64 * 2 ^ 64) (2 ^ 64 * 2 ^ 64) (omega arith) (omega arith)
     (whole.product_le n m (2 ^ 64 * 2 ^ 64) h)
 
-units_le : (n m : ℤ) → n ≤ℤ m → over n (2 ^ 64) ≤ℚ over m (2 ^ 64)
+pub units_le : (n m : ℤ) → n ≤ℤ m → over n (2 ^ 64) ≤ℚ over m (2 ^ 64)
 units_le n m h =
     over_le_of_cross n m (2 ^ 64) (2 ^ 64) (omega arith) (omega arith) (whole.product_le n m (2 ^ 64) h)
 

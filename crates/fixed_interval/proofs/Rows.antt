@@ -63,7 +63,7 @@ high_end_small m i small ends =
 turned : (m n : ℤ) → m *ℤ n ≡ n *ℤ m
 turned m n = W.ring (m ∷ n ∷ []) (hlevel W.terms) refl
 
-low_end_below : (i : Interval) (x : Fraction) (m : ℤ) → LiesIn x i
+pub low_end_below : (i : Interval) (x : Fraction) (m : ℤ) → LiesIn x i
     → over (low_end m i) (2 ^ 64) ≤ℚ x *ℚ over m (2 ^ 64)
 low_end_below i x m held =
     let least = int_min (m *ℤ i.lo) (m *ℤ i.hi) in
@@ -75,7 +75,7 @@ low_end_below i x m held =
     (below_product least i.hi m (omega (arith, ints, clamps))))
     (ends_le_product (over m (2 ^ 64)) held.at_least held.at_most))
 
-high_end_above : (i : Interval) (x : Fraction) (m : ℤ) → LiesIn x i
+pub high_end_above : (i : Interval) (x : Fraction) (m : ℤ) → LiesIn x i
     → x *ℚ over m (2 ^ 64) ≤ℚ over (high_end m i) (2 ^ 64)
 high_end_above i x m held =
     let most = int_max (m *ℤ i.lo) (m *ℤ i.hi) in

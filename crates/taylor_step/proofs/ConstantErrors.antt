@@ -139,7 +139,8 @@ module _ (d : ℕ) (exact stored : ℕ → ℕ → Fraction) (free kept : ℕ �
       (size (y (suc (suc k)) row)) (size (sum_to d (λ col. exact row col *ℚ y (suc k) col)))
       (sum_to d (λ col. size (exact row col))) (coefficient_bound (suc k))
       (inverse (suc (suc k)) (omega arith)) (natural 1 (suc (suc k)))
-      (le_of_equal (sym (size_mul_natural (y (suc (suc k)) row) (natural (suc (suc k)) 1)) ∙ ap size (runs.recurs (suc k) row b
+      (le_of_equal (sym (size_mul_natural (y (suc (suc k)) row) (natural (suc (suc k)) 1))
+      ∙ ap size (runs.recurs (suc k) row b
       ∙ ap (λ t. sum_to d (λ col. exact row col *ℚ y (suc k) col) +ℚ t) (runs.free_later k row b)
       ∙ ring (sum_to d (λ col. exact row col *ℚ y (suc k) col) ∷ []) (hlevel terms) refl)))
       (row_product_within d (exact row) (y (suc k)) (coefficient_bound (suc k))
@@ -182,7 +183,8 @@ module _ (d : ℕ) (exact stored : ℕ → ℕ → Fraction) (free kept : ℕ �
 
       balance : (n u v a c p q g h : Fraction) → n *ℚ u ≡ a +ℚ g → a ≡ c +ℚ (p +ℚ q)
           → n *ℚ (u -ℚ v) ≡ p +ℚ q +ℚ (g -ℚ h) +ℚ ((c +ℚ h) -ℚ n *ℚ v)
-      balance n u v a c p q g h e f = ring (n ∷ u ∷ v ∷ []) (hlevel terms) refl ∙ ap (λ t. t -ℚ n *ℚ v) (e ∙ ap (λ t. t +ℚ g) f)
+      balance n u v a c p q g h e f = ring (n ∷ u ∷ v ∷ []) (hlevel terms) refl
+          ∙ ap (λ t. t -ℚ n *ℚ v) (e ∙ ap (λ t. t +ℚ g) f)
           ∙ ring (n ∷ v ∷ c ∷ p ∷ q ∷ g ∷ h ∷ []) (hlevel terms) refl
 
   -- what the changes meet at the start is one number
@@ -275,10 +277,12 @@ module _ (d : ℕ) (exact stored : ℕ → ℕ → Fraction) (free kept : ℕ �
       → size (error (suc (suc (suc k))) row) ≤ℚ over (pos 33) 32 *ℚ unit
   later_error k row b c errors = join (size (error (suc (suc (suc k))) row)) (whole (pos (suc (suc (suc k)))))
       (coefficient_bound (suc (suc k))) (over (pos 1) (suc (suc (suc k))))
-      (next_error (suc (suc k)) row (over (pos 11) 4 *ℚ unit) (whole (pos 24) *ℚ unit *ℚ coefficient_bound (suc (suc k)))
+      (next_error (suc (suc k)) row (over (pos 11) 4 *ℚ unit)
+      (whole (pos 24) *ℚ unit *ℚ coefficient_bound (suc (suc k)))
       (whole (pos 0)) b c errors
       (mul_natural (natural 11 4) (natural 1 (2 ^ 64))) (later_meets (suc (suc k)) row b) (no_gap (suc k) row b))
-      (late_bound k) (whole_le (omega (arith, ints))) (inverse (suc (suc (suc k))) (omega arith)) (natural 1 (suc (suc (suc k))))
+      (late_bound k) (whole_le (omega (arith, ints))) (inverse (suc (suc (suc k))) (omega arith))
+      (natural 1 (suc (suc (suc k))))
     where
       join : (x n f i : Fraction) → n *ℚ x ≤ℚ over (pos 1) 63 *ℚ (over (pos 11) 4 *ℚ unit)
           +ℚ whole (pos 24) *ℚ unit *ℚ f +ℚ whole (pos 0) +ℚ n *ℚ unit → f ≤ℚ over (pos 9) 8192 → whole (pos 3) ≤ℚ n

@@ -12,7 +12,7 @@ use Rattle.frac_laws.proofs.Norms.{number_below_norm}
 use Rattle.frac_laws.proofs.Order.{le_trans, le_of_equal, le_of_lt}
 use Rattle.frac_laws.proofs.Sums.{sum_to_first, sum_to_zeros}
 use Rattle.frac_laws.proofs.Vectors.{number_at-image, dot-sum}
-use Rattle.cell_laws.specs.Systems.{System, taylor_value}
+use Rattle.cell_laws.specs.Systems.{System}
 use Rattle.cell_laws.specs.Systems as exactly
 use Rattle.cell_laws.specs.Tame.{IsTame, matrix_norm_at, vector_norm_at}
 use Rattle.cell_laws.proofs.Recurrences.{coefficients_recur, taylor_value_sums}

@@ -87,4 +87,5 @@ pub returns-clause-constant_near : goal.returns-clause-constant_near
 returns-clause-constant_near g c e kappa40 only constant stands tame one =
     steps.constant_near c.args.sys.now c.args.mid.now e kappa40 c.degree-degree.ensures.system c.requires.mid only
     stands tame constant one _ c.run.result
-    (returns-clause-constant_in_sup g c e kappa40 only stands tame (λ i. twice_as_large (one.small i))) c.run.ensures.sums
+    (returns-clause-constant_in_sup g c e kappa40 only stands tame (λ i. twice_as_large (one.small i)))
+    c.run.ensures.sums
