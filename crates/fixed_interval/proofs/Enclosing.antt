@@ -17,13 +17,13 @@ use Rattle.fixed_interval.specs.Products.{least_product, greatest_product}
 use Rattle.whole_laws.proofs.Extremes.{lesser_whole-has, greater_whole-has, least_le_left, least_le_right}
 use Rattle.whole_laws.proofs.Extremes.{left_le_greatest, right_le_greatest}
 
-abbrev units : ℤ → Fraction
+abbrev pub units : ℤ → Fraction
 units n = over n (2 ^ 64)
 
-abbrev small_units : ℤ → Fraction
+abbrev pub small_units : ℤ → Fraction
 small_units n = over n (2 ^ 64 * 2 ^ 64)
 
-units_mul : (n m : ℤ) → units n *ℚ units m ≡ small_units (n *ℤ m)
+pub units_mul : (n m : ℤ) → units n *ℚ units m ≡ small_units (n *ℤ m)
 units_mul n m = over_mul n m (2 ^ 64) (2 ^ 64) (omega arith) (omega arith)
 
 small_units_le : (n m : ℤ) → n ≤ℤ m → small_units n ≤ℚ small_units m
@@ -46,14 +46,14 @@ inside_lies_in spare x i inside = record {
 
 -- ---- products
 
-floor_is_below : (n : ℤ) → units (floor_of n (pos (2 ^ 64))) ≤ℚ small_units n
+pub floor_is_below : (n : ℤ) → units (floor_of n (pos (2 ^ 64))) ≤ℚ small_units n
 floor_is_below n =
     let some : pos 0 <ℤ pos (2 ^ 64) = omega (arith, ints) in
     let low = floor_low n (pos (2 ^ 64)) some in
     over_le_of_cross (floor_of n (pos (2 ^ 64))) n (2 ^ 64) (2 ^ 64 * 2 ^ 64) (omega arith) (omega arith)
     (omega (arith, ints))
 
-ceiling_is_above : (n : ℤ) → small_units n ≤ℚ units (ceiling_of n (pos (2 ^ 64)))
+pub ceiling_is_above : (n : ℤ) → small_units n ≤ℚ units (ceiling_of n (pos (2 ^ 64)))
 ceiling_is_above n =
     let some : pos 0 <ℤ pos (2 ^ 64) = omega (arith, ints) in
     let high = ceiling_high n (pos (2 ^ 64)) some in
@@ -80,10 +80,10 @@ greatest_of_four p q r s = (
   omega (arith, ints, clamps),
 )
 
-below_product : (z n m : ℤ) → z ≤ℤ (n *ℤ m) → small_units z ≤ℚ units n *ℚ units m
+pub below_product : (z n m : ℤ) → z ≤ℤ (n *ℤ m) → small_units z ≤ℚ units n *ℚ units m
 below_product z n m h = rw (units_mul n m) (small_units_le z (n *ℤ m) h)
 
-above_product : (z n m : ℤ) → (n *ℤ m) ≤ℤ z → units n *ℚ units m ≤ℚ small_units z
+pub above_product : (z n m : ℤ) → (n *ℤ m) ≤ℤ z → units n *ℚ units m ≤ℚ small_units z
 above_product z n m h = rw (units_mul n m) (small_units_le (n *ℤ m) z h)
 
 pub low_product : (a b : Interval) (x y : Fraction) → LiesIn x a → LiesIn y b

@@ -2,4 +2,5 @@ pub mod Halves
 pub mod Intervals
 pub mod Printing
 pub mod Products
+pub mod Rows
 pub mod Tables

@@ -34,11 +34,12 @@ impl Interval {
     }
 
     // The products of its numbers by one number, rounded outward once.
-    fn times(&self, number: i128) -> Interval
+    pub(crate) fn times(&self, number: i128) -> Interval
         requires first { HasEndsUpTo (2 ^ 66) self.now }
         requires second { unsigned_abs number ≤ 2 ^ 66 }
         ensures lo { result.lo ≡ low_end number self.now }
         ensures hi { result.hi ≡ high_end number self.now }
+        ensures size { HasEndsUpTo (2 ^ 68) result }
     {
         Interval {
             lo: floor_product(number, self.lo).min(floor_product(number, self.hi)),
@@ -52,6 +53,7 @@ impl Interval {
         requires second { HasEndsUpTo (2 ^ 66) o.now }
         ensures lo { result.lo ≡ floor_of (least_product self.now o.now) (pos (2 ^ 64)) }
         ensures hi { result.hi ≡ ceiling_of (greatest_product self.now o.now) (pos (2 ^ 64)) }
+        ensures size { HasEndsUpTo (2 ^ 68) result }
         ensures encloses { (x y : Fraction) → LiesIn x self.now → LiesIn y o.now → LiesIn (x *ℚ y) result }
     {
         let of_lo = o.times(self.lo);

@@ -59,6 +59,34 @@ fn products_are_rounded_outward_once(rt: HostRuntime) {
 }
 
 #[test]
+fn rows_are_rounded_once_a_number(rt: HostRuntime) {
+    let third = of(6_148_914_691_236_517_205, 6_148_914_691_236_517_206);
+    let wide = of(-4_611_686_018_427_387_904, 2_635_249_153_387_078_802);
+    let cases = [
+        (affine_apply(&[], &of(-3, 5), &[]), (-3, 5)),
+        (
+            affine_apply(
+                &[third, wide],
+                &of(-16, 16),
+                &[3_689_348_814_741_910_323, -2_049_638_230_412_172_402],
+            ),
+            (936_977_476_759_850_223, 1_742_192_495_850_346_559),
+        ),
+        (
+            affine_apply(
+                &[of(FACTOR - 1, FACTOR), of(-FACTOR, FACTOR)],
+                &of(FACTOR, FACTOR),
+                &[-FACTOR, FACTOR],
+            ),
+            (-516_508_834_063_867_445_248, 73_786_976_294_838_206_468),
+        ),
+    ];
+    for (found, wanted) in cases {
+        assert_eq!(rt; (found.lo, found.hi), wanted);
+    }
+}
+
+#[test]
 fn sums_and_meetings_are_exact(rt: HostRuntime) {
     assert_eq!(rt; of(-1, 3).add(&of(2, 5)), of(1, 8));
     assert_eq!(rt; of(1, 3).meet(&of(2, 5)), Some(of(2, 3)));

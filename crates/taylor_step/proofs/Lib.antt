@@ -1,7 +1,9 @@
 pub mod Blocks
 pub mod ConstantCells
+pub mod ConstantErrors
 pub mod ConstantPairs
 pub mod ConstantRows
+pub mod ConstantSteps
 pub mod DegreeLimits
 pub mod Fits
 pub mod FitsByRows

@@ -66,7 +66,7 @@ row_sum_at [] i = refl
 row_sum_at (row ∷ a) zero = refl
 row_sum_at (row ∷ a) (suc i) = row_sum_at a i
 
-row_within : (d : ℕ) (a : Matrix) (i : ℕ) → sum_to d (λ j. size (number_at (vector_at a i) j)) ≤ℚ
+pub row_within : (d : ℕ) (a : Matrix) (i : ℕ) → sum_to d (λ j. size (number_at (vector_at a i) j)) ≤ℚ
     norm_of_matrix Sup a
 row_within d a i =
     le_trans (sum_within_list d (vector_at a i))

@@ -1,4 +1,5 @@
 pub mod CanStep
+pub mod ConstantSteps
 pub mod Enclosures
 pub mod ListedNumbers
 pub mod RoundedRun

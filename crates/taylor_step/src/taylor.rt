@@ -10,6 +10,7 @@ ghost use Rattle.linear_system.specs.DegreeLimit.{degree_limit, IsConstant};
 ghost use Rattle.linear_system.specs.StandsFor.{StandsFor, StandsForPair};
 ghost use Rattle.linear_system.specs.StoredSystem.{dim_of};
 ghost use Rattle.taylor_step.specs.CanStep.{CanStep, AreAtMost};
+ghost use Rattle.taylor_step.specs.ConstantSteps.{IsConstantInX, HasOneNumber, StaysNear};
 ghost use Rattle.taylor_step.specs.Enclosures.{Encloses, EnclosesFirst, EnclosesSecond};
 ghost use Rattle.taylor_step.specs.RoundedRun.{IsRoundedValue};
 
@@ -48,6 +49,10 @@ pub fn step<L: Ledger>(
     ensures constant_pair { (half : ℕ) (p : CoupledPair) (kappa40 : ℕ) (c : Fraction) → IsConstant sys.now
         → StandsForPair sys.now half p → IsTamePair kappa40 c p → AreAtMost (2 ^ 64 + 2 ^ 45) mid.old
         → result ≤ 9 }
+
+    // From a start of one number its new numbers are then nearer than the radius says.
+    ensures constant_near { (e : System) (kappa40 : ℕ) → IsConstant sys.now → IsConstantInX e → StandsFor sys.now e
+        → IsTame Sup kappa40 e → HasOneNumber mid.old → StaysNear e mid.old mid.new result }
 
     // Whatever tame system or pair it is that the stored numbers stand for.
     ensures sup { (e : System) (kappa40 : ℕ) → StandsFor sys.now e → IsTame Sup kappa40 e

@@ -1,9 +1,10 @@
-use Rattle.std.specs.Prelude.{◌≡◌, ℕ, ◌≤◌}
+use Rattle.std.specs.Prelude.{◌≡◌, ℕ, ◌^◌, ◌≤◌}
 use Rattle.taylor_step.proofs.DegreeLimits.{stops_by_limit, rows_half}
 use Rattle.taylor_step.proofs.Fits.{can_fit}
 use Rattle.std.proofs.Common.{refl, arith}
 use Rattle.taylor_step.proofs.ConstantCells.{constant_in_sup, constant_in_sum}
 use Rattle.taylor_step.proofs.ConstantPairs.{constant_pair}
+use Rattle.taylor_step.proofs.ConstantSteps as steps
 use Rattle.taylor_step.proofs.Floors.{rounded_value}
 use Rattle.taylor_step.proofs.Stopping.{least_stop}
 use Rattle.taylor_step.proofs.Promise.{encloses_in_sup, encloses_in_sum, encloses_first, encloses_second}
@@ -77,3 +78,14 @@ returns-clause-constant_pair g c half p kappa40 coupling only stands tame small 
     let system = c.degree-degree.ensures.system in
     constant_pair c.args.sys.now c.args.mid.now half p kappa40 coupling system c.requires.mid only stands tame small
     c.run.result (rows_half c.args.sys.now c.args.mid.now system c.requires.can) c.run.ensures.stop
+
+-- numbers of at most 1 are at most 2
+twice_as_large : {n : ℕ} → n ≤ 2 ^ 64 → n ≤ 2 ^ 65
+twice_as_large h = omega arith
+
+pub returns-clause-constant_near : goal.returns-clause-constant_near
+returns-clause-constant_near g c e kappa40 only constant stands tame one =
+    steps.constant_near c.args.sys.now c.args.mid.now e kappa40 c.degree-degree.ensures.system c.requires.mid only
+    stands tame constant one _ c.run.result
+    (returns-clause-constant_in_sup g c e kappa40 only stands tame (λ i. twice_as_large (one.small i)))
+    c.run.ensures.sums

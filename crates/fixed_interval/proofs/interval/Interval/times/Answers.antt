@@ -1,8 +1,10 @@
-use Rattle.std.proofs.Common.{◌*ℤ◌, FitsSigned, rules, sym, ◌∙◌}
+use Rattle.std.proofs.Common.{◌^◌, ◌≤◌, ℤ, ◌*ℤ◌, FitsSigned, rules, sym, subst, ◌∙◌}
+use Rattle.std.specs.Prelude.{unsigned_abs}
 use Rattle.std.specs.Int.{w128, int_min, int_max}
 use Rattle.std.proofs.lemmas.Int.{to_z-of_z}
 use mathlib.Core.Path.{ap₂}
 use Rattle.fixed_interval.proofs.Ends.{floor-min, ceiling-max, low_le_high}
+use Rattle.fixed_interval.proofs.Rows.{low_end_small, high_end_small}
 use Rattle.fixed_interval.proofs.interval.Interval.times.Goals as goal
 
 pub returns-clause-lo : goal.returns-clause-lo
@@ -32,6 +34,16 @@ returns-clause-hi c =
     let s = simp to_z-of_z at c.ceil_product-2.ensures.value in
     let hi = simp to_z-of_z at c.max.ensures.value in
     simp to_z-of_z (hi ∙ ap₂ int_max r s ∙ sym (ceiling-max (c.args.number *ℤ a.lo) (c.args.number *ℤ a.hi)))
+
+pub returns-clause-size : goal.returns-clause-size
+returns-clause-size c =
+    let P : ℤ → Type 0 = λ z. unsigned_abs z ≤ 2 ^ 68 in
+    record {
+      lo = subst P (sym (returns-clause-lo c))
+          (low_end_small c.args.number c.args.self.now c.requires.second c.requires.first);
+      hi = subst P (sym (returns-clause-hi c))
+          (high_end_small c.args.number c.args.self.now c.requires.second c.requires.first);
+    }
 
 pub invariant_of-result : goal.invariant_of-result
 invariant_of-result c =
