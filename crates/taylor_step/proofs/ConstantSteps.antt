@@ -18,10 +18,9 @@ use Rattle.cell_laws.specs.Tame.{IsTame, matrix_norm_at, vector_norm_at}
 use Rattle.cell_laws.proofs.Recurrences.{coefficients_recur, taylor_value_sums}
 use Rattle.cell_laws.proofs.TameSums.{total_within, free_within, first_weighted}
 use Rattle.linear_system.specs.DegreeLimit.{greatest_power}
-use Rattle.linear_system.specs.StandsFor.{units, StandsFor}
+use Rattle.linear_system.specs.StandsFor.{units, StandsFor, in_units}
 use Rattle.linear_system.specs.StoredSystem.{StoredSystem, IsSystem, dim_of, stored_number, stored_free}
 use Rattle.taylor_step.specs.ConstantSteps.{IsConstantInX, HasOneNumber, StaysNear}
-use Rattle.taylor_step.specs.Enclosures.{in_units}
 use Rattle.taylor_step.specs.RoundedRun.{stored_image}
 use Rattle.taylor_step.specs.WholeRun.{coefficient, value_to}
 use Rattle.taylor_step.proofs.ConstantErrors.{AreConstantRuns, sums_are_near}

@@ -3,9 +3,8 @@ use Rattle.std.specs.Prelude.{◌≡◌, ◌≢◌, ℕ, ◌^◌, ◌<◌, ◌�
 use Rattle.frac_laws.specs.Fraction.{whole, size, ◌-ℚ◌, ◌≤ℚ◌}
 use Rattle.frac_laws.specs.Lists.{number_at, vector_at, matrix_at}
 use Rattle.cell_laws.specs.Systems.{System, taylor_value}
-use Rattle.linear_system.specs.StandsFor.{units}
+use Rattle.linear_system.specs.StandsFor.{units, in_units}
 use Rattle.taylor_step.specs.CanStep.{AreAtMost}
-use Rattle.taylor_step.specs.Enclosures.{in_units}
 
 -- above power 0 all matrices and free vectors of an exact system are 0
 pub record IsConstantInX (e : System) : Type 0 where
