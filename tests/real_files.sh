@@ -91,6 +91,8 @@ try 'an unknown command' 2 "$no_reading" price "$top/examples/flat.toml"
 try 'an empty name' 2 "$no_reading" value ''
 try 'a seed that is too large' 2 "$no_reading" generate 18446744073709551616
 try 'a word that is no text' 2 '' value $'\xff'
+try 'a hundred thousand words' 2 "$no_reading" $(seq 100000)
+try 'a pipe for a file' 0 "$flat" value <(cat "$top/examples/flat.toml")
 
 # how each file of `files` is judged: `ok`, the product's name and how much it has of what; or the line that refuses it
 while read -r name verdict <&3; do
@@ -131,6 +133,32 @@ if [ "$status" -eq 9 ] && [ ! -s "$work/output" ] && [ ! -s "$work/errors" ]; th
 else
   failed=$((failed + 1))
   echo "FAILED the least memory: wanted status 9, found $status"
+fi
+
+# a small stack is enough
+if [ "$(ulimit -s 64; "$program" value "$top/examples/flat.toml")" = "${flat%$'\n'}" ]; then
+  passed=$((passed + 1))
+else
+  failed=$((failed + 1))
+  echo "FAILED a stack of 64 KiB"
+fi
+
+# a pipe that nobody reads any more takes nothing, nor does an output that is closed
+(sleep 0.2; exec "$program" generate 7 2>"$work/errors") | true
+status=${PIPESTATUS[0]}
+if [ "$status" -eq 8 ] && [ ! -s "$work/errors" ]; then
+  passed=$((passed + 1))
+else
+  failed=$((failed + 1))
+  echo "FAILED a closed pipe: wanted status 8, found $status"
+fi
+"$program" value "$top/examples/flat.toml" >&- 2>"$work/errors"
+status=$?
+if [ "$status" -eq 8 ] && [ ! -s "$work/errors" ]; then
+  passed=$((passed + 1))
+else
+  failed=$((failed + 1))
+  echo "FAILED a closed output: wanted status 8, found $status"
 fi
 
 # a full device takes nothing
