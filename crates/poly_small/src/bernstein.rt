@@ -17,7 +17,7 @@ impl Poly {
         requires { 320 * value_of_sizes (in_units_of 12 self.now.c) (max k 1) < 2 ^ 126 }
         ensures polynomial { (den : ℕ) → 1 ≤ den → all_over (2488320 * den) result
             ≡ bernstein_coefficients
-                (stretched (over (pos 1) 12) (shifted (over (pos k) 12) (all_over den self.now.c))) }
+            (stretched (over (pos 1) 12) (shifted (over (pos k) 12) (all_over den self.now.c))) }
         ensures size { (j : ℕ) → unsigned_abs (slice_index_or result j (pos 0))
             ≤ 320 * value_of_sizes (in_units_of 12 self.now.c) (max k 1) }
     {

@@ -58,7 +58,7 @@ pub(crate) fn second_radii(
     requires most { scale ≤ 56 }
     ensures { IfOk result (λ seconds. seconds.items
         ≡ list_of (suc product.now.months)
-            (ledgers.second_before_term product.now (payment_plan product.now) (2 ^ scale))) }
+        (ledgers.second_before_term product.now (payment_plan product.now) (2 ^ scale))) }
 {
     radii_stay_small();
     second_stays_small();

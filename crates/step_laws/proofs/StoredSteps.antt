@@ -109,8 +109,10 @@ pub listed_window : (dim degree d : ℕ) (z : (k row : ℕ) → Fraction)
     → HasWindow degree d (λ k. vector_of dim (z k))
 listed_window dim degree d z h m i b = elim (cases_lt i dim) [
   | inl c ↦ rw (number_at-vector_of dim (z (degree - m)) i c) (h m i c b)
-  | inr c ↦ rw (number_at-past (vector_of dim (z (degree - m))) dim i (vector_of_fits dim (z (degree - m))) c,
-      size_zero)
+  | inr c ↦ rw (
+    number_at-past (vector_of dim (z (degree - m))) dim i (vector_of_fits dim (z (degree - m))) c,
+    size_zero,
+  )
       (linear (power (whole (pos 8)) m ∷ []) (natural 64 (2 ^ 64) ⊠ eights_natural m) (hlevel claims) refl)
 ]
 

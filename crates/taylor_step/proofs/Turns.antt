@@ -51,7 +51,7 @@ pub new_is : (s : StoredSystem) (mid start newest : List ℤ) (k : ℕ) (strips 
 unfolding past
 new_is s mid start newest k strips sys is_start history done i b =
     done i b ∙ ap (λ z. floor_of z (pos (2 ^ 64 * (k + 1))))
-        (products_are s mid start k strips sys is_start history i b)
+    (products_are s mid start k strips sys is_start history i b)
     ∙ rw add-one refl
 
 pub history_more : (s : StoredSystem) (mid newest : List ℤ) (k : ℕ) (old new : List (List ℤ)) → IsSystem s

@@ -15,7 +15,7 @@ overflow_mul-halves c =
     let low_part : FitsSigned w128 c.halves_of-halves.result.low = search rules in
     let parts = simp to_z-of_z at c.halves_of-halves.ensures in
     simp to_z-of_z (low_fits (halves.low *ℤ c.args.b)
-        (low_size c.args.a c.args.b halves.high halves.low parts c.requires.factor))
+    (low_size c.args.a c.args.b halves.high halves.low parts c.requires.factor))
 
 pub overflow_mul-halves-2 : goal.overflow_mul-halves-2
 overflow_mul-halves-2 c =

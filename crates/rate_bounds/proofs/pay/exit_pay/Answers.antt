@@ -6,7 +6,7 @@ use Rattle.rate_bounds.proofs.pay.exit_pay.Goals as goal
 pub overflow_mul-result : goal.overflow_mul-result
 overflow_mul-result c =
     let paid = exit_pay_is c.args.product.now (plan_named c.args.which c.args.product.now) c.args.month
-        c.args.transition
+    c.args.transition
     c.rate_part.result c.sum_load-load.result c.rate_part.ensures.value c.sum_load-load.ensures.value in
     omega (arith, paid, c.requires.fits)
 

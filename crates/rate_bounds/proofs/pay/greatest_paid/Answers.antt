@@ -9,7 +9,7 @@ loop-state-preserved c =
     let plan = plan_named c.args.which c.args.product.now in
     let states = ap (λ g. length g.names) c.graph.ensures.graph in
     let fits : paid_in_state c.args.product.now (plan_named c.args.which c.args.product.now) c.args.month
-        c.loop-state.state < 2 ^ 117 =
+    c.loop-state.state < 2 ^ 117 =
     c.requires.fits c.loop-state.state (omega (arith, states)) in
     record {
       greatest = c.max-most.ensures

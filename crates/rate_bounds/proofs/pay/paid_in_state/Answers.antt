@@ -6,7 +6,7 @@ use Rattle.rate_bounds.proofs.pay.paid_in_state.Goals as goal
 pub exits_pay-requires-clause-fits : goal.exits_pay-requires-clause-fits
 exits_pay-requires-clause-fits c =
     let less = exits_pay_less c.args.product.now (plan_named c.args.which c.args.product.now) c.args.month
-        c.args.state in
+    c.args.state in
     rw c.exits_of.ensures.transitions (omega (arith, c.requires.fits, less))
 
 pub overflow_add-result : goal.overflow_add-result

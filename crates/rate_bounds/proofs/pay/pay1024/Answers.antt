@@ -13,7 +13,7 @@ greatest_paid-requires-clause-fits c =
       c.month_unit-unit.ensures.most,
     ) in
     little_is_paid c.pay_is_small.ensures.payments c.pay_is_small.ensures.pattern c.args.which c.args.product.now
-        c.args.month
+    c.args.month
     c.month_unit-unit.ensures.lawful c.requires.rules c.requires.month unit
 
 pub returns : goal.returns

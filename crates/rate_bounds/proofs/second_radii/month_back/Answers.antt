@@ -14,7 +14,7 @@ pub overflow_add-second : goal.overflow_add-second
 overflow_add-second c =
     let fits : c.args.second + c.date_adds-adds.result ≤ 2 ^ 80 =
     second_cells_fit c.args.product.now (payment_plan c.args.product.now) c.args.largest c.args.month c.args.w
-        c.args.second 32
+    c.args.second 32
     c.kappa_at-kappa40.result c.pay_at-pay.result c.date_adds-adds.result c.lumps_of.result.now
     (record {
       kappa_is = c.kappa_at-kappa40.ensures.value;

@@ -63,6 +63,6 @@ pub returns : goal.returns
 returns c =
     let months = c.months-months.ensures.value in
     all_dates (second_before_term c.args.product.now (payment_plan c.args.product.now) (2 ^ c.args.scale))
-        c.args.product.now.months
+    c.args.product.now.months
     c.loop-back.back c.loop-back.second c.loop-back.seconds.items _ (omega arith)
     c.loop-back.invariant.dates c.loop-back.invariant.next c.in_ok-push-2.ensures.items

@@ -28,7 +28,7 @@ weighted_value-requires-5-clause-fits c =
 pub weighted_value-requires-6-clause-fits : goal.weighted_value-requires-6-clause-fits
 weighted_value-requires-6-clause-fits c =
     weighted_fits c.args.self.now.c (pos 10 ∷ pos 10 ∷ pos 10 ∷ pos 10 ∷ pos 10 ∷ pos 10 ∷ []) 1
-        (omega arith) c.requires
+    (omega arith) c.requires
 
 pub returns-clause-polynomial : goal.returns-clause-polynomial
 returns-clause-polynomial c =

@@ -9,7 +9,7 @@ in_units-requires-clause-fits c = units_within (in_units_of 12 c.args.self.now.c
 pub shift-requires : goal.shift-requires
 shift-requires c =
     shift_within (in_units_of 12 c.args.self.now.c) c.in_units.result.c c.args.k c.in_units.ensures.coefficients
-        c.requires
+    c.requires
 
 pub bernstein-requires : goal.bernstein-requires
 bernstein-requires c =
