@@ -1,0 +1,13 @@
+pub mod Again
+pub mod Checks
+pub mod CurveRules
+pub mod Depths
+pub mod GoodNames
+pub mod HeadRules
+pub mod Loops
+pub mod PatternRules
+pub mod PaymentRules
+pub mod ReadTrees
+pub mod StateNames
+pub mod Trees
+pub mod Values

@@ -1,0 +1,3 @@
+pub mod FileTree
+pub mod Laws
+pub mod Upgraded
