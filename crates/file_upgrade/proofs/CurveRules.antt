@@ -11,10 +11,11 @@ use Rattle.model_specs.specs.Curve.{Piece, zero_piece}
 use Rattle.model_specs.specs.MonthNumbers.{coefficient_at}
 use Rattle.model_specs.specs.Product.{Product, Transition}
 use Rattle.model_specs.specs.RecordRules.{IsWellFormed, StartsRise, IsCurve, IsBounded, IsBoundedCurve}
+use Rattle.model_specs.specs.RecordRules.{is_bounded}
 use Rattle.product_file.specs.Checks.{first_failed, first_failed_of_lists}
 use Rattle.product_file.specs.Members.{item_at, items_of, members_of}
 use Rattle.product_file.specs.CurveRules.{start_of, is_in_order, rule_8_of, rule_8, rule_9_of, rule_9}
-use Rattle.product_file.specs.CurveRules.{is_bounded, curve_items}
+use Rattle.product_file.specs.CurveRules.{curve_items}
 use Rattle.product_file.specs.TransitionRule.{transition_items}
 use Rattle.workload_gen.proofs.Passing.{places_pass, some_places_pass, each_place_passes}
 use Rattle.file_upgrade.specs.FileTree.{transition_data}

@@ -12,7 +12,7 @@ use Rattle.named_numbers.specs.Numbers.{longest_state_name}
 use Rattle.model_specs.specs.Names.{IsGoodName, is_name_byte}
 use Rattle.model_specs.specs.Product.{Product, Step, Transition, no_transition}
 use Rattle.model_specs.specs.RecordRules.{IsWellFormed}
-use Rattle.model_specs.specs.Whole.{list_of}
+use Rattle.whole_laws.specs.Whole.{list_of}
 use Rattle.product_file.specs.Checks.{first_failed}
 use Rattle.product_file.specs.Members.{items_of, item_at, is_among, text_of}
 use Rattle.product_file.specs.HeadRules.{rule_2, rule_3, rule_4, rule_5, rule_6, is_good_name, is_good_state}

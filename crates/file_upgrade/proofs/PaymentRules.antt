@@ -13,7 +13,7 @@ use Rattle.model_specs.specs.MonthNumbers.{bernstein_numerators}
 use Rattle.model_specs.specs.Payments.{constant_step}
 use Rattle.model_specs.specs.Product.{Product, Step, Transition, Sojourn}
 use Rattle.model_specs.specs.RecordRules.{IsWellFormed, IsPayment, IsBoundedStep, IsBoundedPayment}
-use Rattle.model_specs.specs.Whole.{list_of}
+use Rattle.whole_laws.specs.Whole.{list_of}
 use Rattle.product_file.specs.Checks.{first_failed, first_failed_of_lists}
 use Rattle.product_file.specs.Members.{item_at, is_absent, members_of}
 use Rattle.product_file.specs.CurveRules.{start_of}

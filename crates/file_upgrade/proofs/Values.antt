@@ -3,7 +3,7 @@ use Rattle.std.proofs.Common.{◌≡◌, ℕ, ◌<◌, ◌≤◌, List, [], ◌�
 use Rattle.std.specs.Prelude.{codes, false, All, Some, unwrap_or}
 use Rattle.std.proofs.lemmas.List.Elements.{All-nil, All-weaker}
 use Rattle.toml.specs.Data.{Data, Members}
-use Rattle.model_specs.specs.Whole.{natural_part}
+use Rattle.whole_laws.specs.Whole.{natural_part}
 use Rattle.model_specs.specs.Curve.{Piece}
 use Rattle.model_specs.specs.Product.{Product, Step, Transition, Sojourn, Lump, PremiumPattern, no_pattern}
 use Rattle.model_specs.specs.RecordRules.{IsWellFormed, IsPayment}
