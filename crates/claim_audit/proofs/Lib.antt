@@ -3,4 +3,5 @@ pub mod Digits
 pub mod FoundClaims
 pub mod Nearness
 pub mod Numbers
+pub mod RightMarks
 pub mod ThreeFields

@@ -14,7 +14,7 @@ use Rattle.claim_audit.specs.Readings.{record_at, claim_at, AreClaimsIn}
 use Rattle.claim_audit.specs.Findings.{HasNumber}
 
 -- a month that is read is at most the term
-month_in_term : (months : ℕ) (read : Option ℕ) (month : ℕ) → up_to months read ≡ Some month → month ≤ months
+pub month_in_term : (months : ℕ) (read : Option ℕ) (month : ℕ) → up_to months read ≡ Some month → month ≤ months
 month_in_term months None month is = absurd (let apart = is in cc)
 month_in_term months (Some other) month is = grind arith
 
@@ -31,8 +31,8 @@ claim_has_number : (exact : (degree date state : ℕ) → Fraction) (width : ℕ
     → IsTableFor months (length names) 1 exact width table → IsClaim months names fields claimed
     → HasNumber table claimed
 claim_has_number exact width months names fields claimed table is_table is_claim =
-    let early = month_in_term months _ claimed.month is_claim.say.month_is in
-    let there = slice_get_within names claimed.state is_claim.state is_claim.say.state_is in
+    let early = month_in_term months _ claimed.month is_claim.says.month_is in
+    let there = slice_get_within names claimed.state is_claim.state is_claim.says.state_is in
     let term : months / 1 ≡ months = omega arith in
     let dated : claimed.month ≤ months / 1 = omega (arith, early, term) in
     let ends = is_table.ends claimed.month claimed.state dated there in
@@ -45,7 +45,7 @@ claim_has_number exact width months names fields claimed table is_table is_claim
           (sym is_table.states_is) place;
       ordered = ends.ordered;
       small_ends = ends.small;
-      small_claim = omega (arith, is_claim.say.small);
+      small_claim = omega (arith, is_claim.says.small);
     }
 
 -- each claim of a CSV text has its number in the table

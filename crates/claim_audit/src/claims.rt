@@ -1,7 +1,8 @@
 // Claims in records of a CSV text.
 ghost use Rattle.std.specs.Prelude.{◌≡◌, ◌≢◌, ◌↔◌, ◌<◌, ◌^◌, ◌∷◌, [], length, IfSome, IfNone, IfOk, IfErr, IsTrue};
 ghost use Rattle.csv.specs.Records.{fields_of};
-ghost use Rattle.claim_audit.specs.Claims.{header, month_of, part_of, Fail, HasFault, IsClaim, Say};
+ghost use Rattle.claim_audit.specs.Claims.{header, month_of, part_of, HasFault, IsClaim};
+ghost use Rattle.claim_audit.specs.Claims.{FieldsHaveFault, FieldsSayClaim};
 
 use crate::decimals::{millionths, whole};
 use csv::ByteRecord;
@@ -63,8 +64,8 @@ fn three_fields(row: &ByteRecord) -> Option<(&[u8], &[u8], &[u8])>
     }
 }
 
-// The month of a field.
-fn month(months: u32, field: &[u8]) -> Option<u32>
+/// The month of a field: `0` or up to four digits without a leading zero, at most `months`.
+pub fn month(months: u32, field: &[u8]) -> Option<u32>
     ensures { result ≡ month_of months field.now }
 {
     match whole(field, MOST_DIGITS) {
@@ -74,7 +75,7 @@ fn month(months: u32, field: &[u8]) -> Option<u32>
 }
 
 // The claim of three fields.
-fn said(
+fn claim_in_fields(
     graph: &Graph,
     months: u32,
     month_field: &[u8],
@@ -82,8 +83,9 @@ fn said(
     reserve_field: &[u8],
 ) -> Result<Claimed, Fault>
     requires { length graph.now.names < 2 ^ 32 }
-    ensures ok { IfOk result (Say months graph.now.names month_field.now state_field.now reserve_field.now) }
-    ensures err { IfErr result (Fail months graph.now.names month_field.now state_field.now reserve_field.now) }
+    ensures ok { IfOk result (FieldsSayClaim months graph.now.names month_field.now state_field.now reserve_field.now) }
+    ensures err { IfErr result
+        (FieldsHaveFault months graph.now.names month_field.now state_field.now reserve_field.now) }
 {
     let Some(month) = month(months, month_field) else {
         return Err(Fault::Month);
@@ -110,7 +112,7 @@ pub fn claim_of(graph: &Graph, months: u32, row: &ByteRecord) -> Result<Claimed,
     let Some((month, state, reserve)) = three_fields(row) else {
         return Err(Fault::Count);
     };
-    said(graph, months, month, state, reserve)
+    claim_in_fields(graph, months, month, state, reserve)
 }
 
 /// Whether a record is the header.

@@ -1,6 +1,6 @@
 // The mark of a claim, by an interval of the exact number.
 ghost use Rattle.std.specs.Prelude.{◌≡◌, ◌↔◌, pos, ◌≤ℤ◌, IsTrue};
-ghost use Rattle.claim_audit.specs.Marks.{AreSmall, IsFar, IsNear};
+ghost use Rattle.claim_audit.specs.Marks.{AreSmall, ImpliesNearness, IsFar, IsNear};
 
 /// Whether a claimed number is within a distance of an exact one, as far as an interval of the exact one tells.
 #[derive(Clone, Copy, Debug, PartialEq, Eq)]
@@ -36,6 +36,7 @@ pub fn mark(claim: i128, eps: i128, lo: i128, hi: i128) -> Finding
     requires small { AreSmall claim eps lo hi }
     ensures yes { (result ≡ Finding.Yes) ↔ IsNear claim eps lo hi }
     ensures no { (result ≡ Finding.No) ↔ IsFar claim eps lo hi }
+    ensures nearness { ImpliesNearness result claim eps lo hi }
 {
     if is_near(claim, eps, lo, hi) {
         Finding::Yes

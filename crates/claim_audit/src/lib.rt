@@ -10,7 +10,7 @@ mod reading;
 mod rows;
 
 pub use auditing::{Audited, audit};
-pub use claims::{Claimed, Fault, claim_of, is_header};
+pub use claims::{Claimed, Fault, claim_of, is_header, month};
 pub use decimals::{millionths, whole};
 pub use finding::{Finding, mark};
 pub use findings::{Claim, findings_of};

@@ -5,6 +5,7 @@ use Rattle.std.specs.Prelude.{All}
 use Rattle.claim_audit.specs.Findings.{HasNumber, AreFound}
 use Rattle.claim_audit.specs.Readings.{AreClaimsIn}
 use Rattle.claim_audit.proofs.Numbers.{claims_have_numbers}
+use Rattle.claim_audit.proofs.RightMarks.{claims_are_right}
 use Rattle.claim_audit.proofs.auditing.audit.Goals as goal
 
 pub findings_of-requires-clause-numbers : goal.findings_of-requires-clause-numbers
@@ -31,13 +32,17 @@ returns-clause-ok g c =
     let by_graph = subst (λ graph. AreClaimsIn c.product-product.result.now.months graph.names text claimed)
     c.graph.ensures.graph by_months in
     let fits : FitsSigned w128 c.args.eps = search rules in
+    let read = subst (λ product. AreClaimsIn product.months product.states text claimed)
+    c.product-product.ensures.product by_graph in
+    let found = subst (λ claims. AreFound c.in-Ok-reserves.table c.args.eps claims c.in-Ok-findings_of.claims.items)
+    c.deref.ensures.value (simp to_z-of_z at c.in-Ok-findings_of.ensures) in
     record {
       claimed = claimed;
-      read = subst (λ product. AreClaimsIn product.months product.states text claimed)
-          c.product-product.ensures.product by_graph;
+      read = read;
       table = c.in-Ok-reserves.table;
       reserves = c.in-Ok-reserves.ensures.reserves;
       degree_is = refl;
-      found = subst (λ claims. AreFound c.in-Ok-reserves.table c.args.eps claims c.in-Ok-findings_of.claims.items)
-          c.deref.ensures.value (simp to_z-of_z at c.in-Ok-findings_of.ensures);
+      found = found;
+      right = claims_are_right c.args.adm.now text c.args.eps claimed c.in-Ok-reserves.table
+          c.in-Ok-findings_of.claims.items c.in-Ok-reserves.ensures.reserves read found;
     }

@@ -22,8 +22,8 @@ loop-claim-preserved c =
           (to_z w128 (of_z w128 c.args.eps))
           (found_at list k))
           (sym items)
-          (one_found_more c.args.table.now (to_z w128 (of_z w128 c.args.eps)) c.args.claimed.now c.loop-claim.claims.items c.found.result
-          c.loop-claim.claim-index c.index.result.now c.loop-claim.invariant.count
-          (c.requires.numbers c.loop-claim.claim-index _ within).place c.index.ensures c.found.ensures
-          c.loop-claim.invariant.each);
+          (one_found_more c.args.table.now (to_z w128 (of_z w128 c.args.eps)) c.args.claimed.now
+          c.loop-claim.claims.items c.found.result c.loop-claim.claim-index c.index.result.now
+          c.loop-claim.invariant.count (c.requires.numbers c.loop-claim.claim-index _ within).place c.index.ensures
+          c.found.ensures c.loop-claim.invariant.each);
     }
