@@ -7,7 +7,7 @@ cd "$(dirname "$0")/.." || exit 2
 exec python3 - <<'PYTHON'
 import collections, pathlib, re
 
-LIMITS = {"lines over 120 columns": 1, "unused imports": 0, "definitions without a line": 0, "statements in two crates": 0}
+LIMITS = {"lines over 120 columns": 0, "unused imports": 0, "definitions without a line": 0, "statements in two crates": 0}
 
 found = {name: [] for name in LIMITS}
 statements = collections.defaultdict(set)

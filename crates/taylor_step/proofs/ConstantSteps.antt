@@ -31,7 +31,8 @@ use Rattle.taylor_step.proofs.Scaled.{unit, units_is, no_units}
 use Rattle.taylor_step.proofs.StoredSizes.{row_within}
 
 -- numbers in units, also past the end
-pub number_in_units : (numbers : List ℤ) (i : ℕ) → number_at (in_units numbers) i ≡ units (slice_index_or numbers i (pos 0))
+pub number_in_units : (numbers : List ℤ) (i : ℕ)
+    → number_at (in_units numbers) i ≡ units (slice_index_or numbers i (pos 0))
 number_in_units [] i = sym no_units
 number_in_units (x ∷ numbers) zero = refl
 number_in_units (x ∷ numbers) (suc i) = number_in_units numbers i
