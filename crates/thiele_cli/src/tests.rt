@@ -1,4 +1,5 @@
 mod columns;
+mod damages;
 mod ends;
 mod reports;
 mod seeds;
