@@ -94,6 +94,7 @@ entries : (c0 c1 c2 c3 c4 c5 : ℤ) (k d : ℕ)
     whole_value_at (row-2 (c0 ∷ c1 ∷ c2 ∷ c3 ∷ c4 ∷ c5 ∷ [])) k ∷
     whole_value_at (row-3 (c0 ∷ c1 ∷ c2 ∷ c3 ∷ c4 ∷ c5 ∷ [])) k ∷
     whole_value_at (row-4 (c0 ∷ c1 ∷ c2 ∷ c3 ∷ c4 ∷ c5 ∷ [])) k ∷ c5 ∷ [])
+    ≡ shifted (whole (pos k)) (all_over d (c0 ∷ c1 ∷ c2 ∷ c3 ∷ c4 ∷ c5 ∷ []))
 entries c0 c1 c2 c3 c4 c5 k d =
     ap₂ (λ z w. z ∷ w) (entry-0 c0 c1 c2 c3 c4 c5 k d)
     (ap₂ (λ z w. z ∷ w) (entry-1 c0 c1 c2 c3 c4 c5 k d)

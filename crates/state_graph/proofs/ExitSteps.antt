@@ -5,10 +5,11 @@ use Rattle.std.proofs.Common.{ap, ◌∙◌, eq-eqb, append-nil}
 use Rattle.std.proofs.lemmas.Bool.{ne_eqb}
 use Rattle.std.proofs.lemmas.List.{map-append}
 use Rattle.std.proofs.lemmas.List.Elements.{filter-append}
-use Rattle.whole_laws.specs.Whole.{places}
+use Rattle.whole_laws.specs.Whole.{list_of, places}
 use Rattle.whole_laws.proofs.ListsByPlace.{list_of-next}
 use Rattle.state_graph.specs.StateGraphs.{edge_at}
 use Rattle.state_graph.specs.Exits.{exits_among, exit_by}
+use Rattle.state_graph.specs.declared.exits.Edge.{Edge}
 
 -- whether one transition more is an exit
 more_exits : (n : ℕ) (edges : List (ℕ × ℕ)) (state : ℕ) (b : Bool) → ((edge_at edges n).0 == state) ≡ b
@@ -30,3 +31,7 @@ pub exit_is_passed : (n : ℕ) (edges : List (ℕ × ℕ)) (state : ℕ) → (ed
 exit_is_passed n edges state from =
     ap (map (exit_by edges))
     (more_exits n edges state false (ne_eqb _ _ from) ∙ append-nil (exits_among n edges state))
+
+-- the table of one state more
+pub table_of_more : (n : ℕ) (exits : ℕ → List Edge) → list_of (n + 1) exits ≡ list_of n exits ++ exits n ∷ []
+table_of_more n exits = list_of-next n exits

@@ -33,7 +33,7 @@ fn exits_from(
 }
 
 /// For each state the exits of it.
-#[tactic(auto, using(crate::proofs::ExitSteps::list_of_more, std::proofs::lemmas::List::map_push))]
+#[tactic(auto, using(crate::proofs::ExitSteps::table_of_more, std::proofs::lemmas::List::map_push))]
 pub(crate) fn exit_table(
     alloc: Global,
     edges: &[(usize, usize)],
