@@ -1,0 +1,13 @@
+pub mod CellGrowth
+pub mod CellMaps
+pub mod CellOfSystem
+pub mod ConstantCells
+pub mod Doublings
+pub mod FiveDoublings
+pub mod FreeSizes
+pub mod Middles
+pub mod MonthOfCells
+pub mod Narrow
+pub mod ProductWidths
+pub mod Radii
+pub mod Turns

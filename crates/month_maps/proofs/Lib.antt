@@ -1,0 +1,7 @@
+pub mod AppliedRows
+pub mod Columns
+pub mod MadeCells
+pub mod MadeMaps
+pub mod RowProducts
+pub mod Starts
+pub mod WrittenRows

@@ -1,0 +1,2 @@
+pub mod MadeMaps
+pub mod StoredMap
