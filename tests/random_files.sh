@@ -198,6 +198,7 @@ def check_product(product, limits, ask):
         assert month or all(row[3] == row[4] == MILLION * (row[1] == product["start"]) for row in here), "not sure at issue"
     check_moments(months, states, reserves, told, ask)
     check_premium(row, ask)
+    check_no_change(months, states, reserves, ask)
     for report in (value, reserves, occupancy):
         check_columns(report, states)
 
@@ -234,14 +235,30 @@ def check_premium(value, ask):
     assert premium[3] <= MILLION * max(ends) and MILLION * min(ends) <= premium[4], "a premium of other values"
 
 
-COMMANDS = [["value"], ["reserves", "7"], ["occupancy", "5"], ["moments", "7"], ["premium"]]
+def check_no_change(months, states, reserves, ask):
+    """From a product to itself no reserve changes, and the ends are differences of the reserves' own ends."""
+    lines = ask(["compare", "FILE", "7"]).split("\n")
+    assert lines[1].startswith("degree ") and lines[-2] == f"end {len(lines) - 4}", "another head or count of changes"
+    rows = [line.split(" ") for line in lines[2:-2]]
+    wanted = [(str(m), s, part) for m in dates(months, 7) for s in states for part in ("interest", "rest", "total")]
+    assert [tuple(row[:3]) for row in rows] == wanted, "other rows of compare"
+    for place, row in enumerate(rows):
+        low, high, tolerance = (whole(number) for number in row[3:6])
+        reserve = reserves.rows[place // 3]
+        width = reserve[4] - reserve[3]
+        assert (low, high, tolerance, row[6]) == (-width, width, 2 * reserve[5], "open"), f"a change: {row}"
+
+
+# the words of each command without its first file; the second is the same
+COMMANDS = [["value"], ["reserves", "7"], ["occupancy", "5"], ["moments", "7"], ["premium"], ["compare", "FILE", "7"]]
 
 
 def fault(file):
     """What is wrong with the answers about a file; nothing where they are right."""
 
     def ask(words):
-        ran = subprocess.run([program, words[0], file, *words[1:]], capture_output=True, timeout=300)
+        named = [file if word == "FILE" else word for word in words]
+        ran = subprocess.run([program, named[0], file, *named[1:]], capture_output=True, timeout=300)
         text = ran.stdout.decode()
         assert not ran.stderr, f"errors told: {ran.stderr[:200]}"
         if ran.returncode:

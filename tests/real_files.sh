@@ -94,6 +94,20 @@ try 'a word that is no text' 2 '' value $'\xff'
 try 'a hundred thousand words' 2 "$no_reading" $(seq 100000)
 try 'a pipe for a file' 0 "$flat" value <(cat "$top/examples/flat.toml")
 
+try 'a second file of 1,048,577 bytes' 11 $'refused second length 1048577\n' \
+  compare "$top/examples/flat.toml" "$work/long.toml" 1
+try 'a second file cut inside a string' 11 $'refused second toml\n' compare "$top/examples/flat.toml" "$work/cut.toml" 1
+try 'an empty second file' 11 $'refused second rule 1 place 0\n' compare "$top/examples/flat.toml" /dev/null 1
+try 'a missing second file' 3 '' compare "$top/examples/flat.toml" "$work/missing.toml" 1
+try 'a first file that is refused before the second is fetched' 5 $'refused toml\n' \
+  compare "$work/cut.toml" "$work/missing.toml" 1
+try 'bases of other terms' 16 $'refused compare part 1\n' \
+  compare "$top/examples/disability.toml" "$top/examples/annuity.toml" 1
+# twice the largest payments, without interest, and with the interest of the new basis
+sed -e 's/396094500958/792189001916/' -e 's/c = \[-1\]/c = [0]/' "$top/tests/files/largest-bound.toml" >"$work/doubled.toml"
+try 'a hybrid whose bound is too large' 13 $'refused derived rule 18 place 0\n' \
+  compare "$work/doubled.toml" "$top/tests/files/largest-bound.toml" 1
+
 # how each file of `files` is judged: `ok`, the product's name and how much it has of what; or the line that refuses it
 while read -r name verdict <&3; do
   case $verdict in

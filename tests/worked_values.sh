@@ -17,8 +17,13 @@ from fractions import Fraction
 program, folder = sys.argv[1], pathlib.Path("tests/values")
 
 
+# which ends prove the sign of a change
+TURNS = {"above": lambda low, high: low > 0, "below": lambda low, high: high < 0,
+         "open": lambda low, high: low <= 0 <= high}
+
+
 def rows_of(lines):
-    """The rows of a report, by month, state and what they are about."""
+    """The rows of a report or of changes, by month, state and what they are about."""
     rows = {}
     for line in lines[2:]:
         if line.startswith("end "):
@@ -62,18 +67,21 @@ def faults(words, wanted):
     if ran.returncode != 0 or ran.stderr:
         return [f"status {ran.returncode}: {ran.stdout}{ran.stderr}"]
     told, rows = [], rows_of(lines)
-    for (month, state, what), (low, high, tolerance) in rows.items():
+    for (month, state, what), (low, high, tolerance, *turn) in rows.items():
         line = f"{month} {state} {what} {low} {high} {tolerance}"
+        if words[0] == "compare" and not TURNS[turn[0]](Fraction(low), Fraction(high)):
+            told.append(f"another turn: {line} {turn[0]}")
         if what != "premium" and Fraction(high) - Fraction(low) > Fraction(tolerance):
             told.append(f"wider than its tolerance: {line}")
         if Fraction(low) > Fraction(high):
             told.append(f"ends turned round: {line}")
     head = lines[1].split(" ")
-    if lines[0].split(" ")[:2] != ["report", words[0]] or not 8 <= int(head[1]) <= 24:
+    first = ["compare"] if words[0] == "compare" else ["report", words[0]]
+    if lines[0].split(" ")[: len(first)] != first or not 8 <= int(head[1]) <= 24:
         told.append(f"another head: {lines[0]}, {lines[1]}")
     if f"end {len(rows)}" not in lines:
         told.append(f"another count of rows than {len(rows)}")
-    if lines[2 + len(rows) + 1 :] != columns_of(words, rows):
+    if lines[2 + len(rows) + 1 :] != ([""] if words[0] == "compare" else columns_of(words, rows)):
         told.append("other columns than those of the rows")
     if words[0] == "moments":
         told += other_reserves(words, rows)
@@ -86,6 +94,8 @@ def faults(words, wanted):
             found = int(head[1]) <= int(line[1])
         elif line[0] == "tolerance":
             found = line[1] in {row[2] for row in rows.values()}
+        elif line[3] in TURNS:
+            found = rows.get(tuple(line[:3]), [""])[-1] == line[3]
         else:
             month, state, what, digits = line
             unit = Fraction(1, 10 ** len(digits.partition(".")[2]))

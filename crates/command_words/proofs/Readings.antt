@@ -1,29 +1,32 @@
--- Words have at most one reading: a request can be made again from the words, by the first letter of the command.
-use Rattle.std.proofs.Common.{◌≡◌, ℕ, ◌<◌, ◌^◌, List, [], decimal, refl, ap, sym, ◌∙◌, arith, get_or, lit<}
+-- Words have at most one reading: a request can be made again from the words, by the command's first two letters.
+use Rattle.std.proofs.Common.{◌≡◌, ℕ, ◌+◌, ◌*◌, ◌<◌, ◌^◌, List, [], decimal, refl, ap, sym, ◌∙◌, arith, get_or, lit<}
 use Rattle.std.specs.Prelude.{◌==◌, if◌then◌else◌}
 use Rattle.std.proofs.lemmas.Fmt.{decimal_injective}
 use Rattle.command_words.specs.Readings.{Request, Check, Value, Reserves, Occupancy, Moments, Premium, Generate}
+use Rattle.command_words.specs.Readings.{Compare}
 use Rattle.command_words.specs.Readings.{AreReadAs, ReadingsAreOne}
 
--- a word by its place, and the first letter of the first word
+-- a word by its place, and the first two letters of the first word, as one number
 abbrev word-at : ℕ → List (List ℕ) → List ℕ
 word-at i words = get_or words i []
 
-abbrev letter : List (List ℕ) → ℕ
-letter words = get_or (word-at 0 words) 0 0
+abbrev letters : List (List ℕ) → ℕ
+letters words = 1000 * get_or (word-at 0 words) 0 0 + get_or (word-at 0 words) 1 0
 
--- the request with this first letter, file and number
-abbrev make : ℕ → List ℕ → ℕ → Request
-make first file number =
-    if first == 99 then Check file else (if first == 118 then Value file else (if first == 112 then Premium file
-    else (if first == 114 then Reserves file number else (if first == 111 then Occupancy file number
-    else (if first == 109 then Moments file number else Generate number)))))
+-- the request with these letters, files and number
+abbrev make : ℕ → (file second : List ℕ) → ℕ → Request
+make first file second number =
+    if first == 99104 then Check file else (if first == 118097 then Value file
+    else (if first == 112114 then Premium file else (if first == 114101 then Reserves file number
+    else (if first == 111099 then Occupancy file number else (if first == 109111 then Moments file number
+    else (if first == 99111 then Compare file second number else Generate number))))))
 
--- where its number stands: the third word of requests at dates, the second of a seed, and else nowhere
+-- where its number stands: the second word of a seed, the third or fourth of requests at dates, and else nowhere
 abbrev text : ℕ → List (List ℕ) → List ℕ
 text first words =
-    if first == 114 then word-at 2 words else (if first == 111 then word-at 2 words
-    else (if first == 109 then word-at 2 words else (if first == 103 then word-at 1 words else decimal 0)))
+    if first == 114101 then word-at 2 words else (if first == 111099 then word-at 2 words
+    else (if first == 109111 then word-at 2 words else (if first == 103101 then word-at 1 words
+    else (if first == 99111 then word-at 3 words else decimal 0))))
 
 abbrev number-of : Request → ℕ
 number-of (Check file) = 0
@@ -33,25 +36,30 @@ number-of (Occupancy file every) = every
 number-of (Moments file every) = every
 number-of (Premium file) = 0
 number-of (Generate seed) = seed
+number-of (Compare first second every) = every
 
 made : (words : List (List ℕ)) (a : Request) → AreReadAs words a
-    → a ≡ make (letter words) (word-at 1 words) (number-of a)
-made words (Check file) a = rw (ap letter a.are, ap (word-at 1) a.are) refl
-made words (Value file) a = rw (ap letter a.are, ap (word-at 1) a.are) refl
-made words (Reserves file every) a = rw (ap letter a.are, ap (word-at 1) a.are) refl
-made words (Occupancy file every) a = rw (ap letter a.are, ap (word-at 1) a.are) refl
-made words (Moments file every) a = rw (ap letter a.are, ap (word-at 1) a.are) refl
-made words (Premium file) a = rw (ap letter a.are, ap (word-at 1) a.are) refl
-made words (Generate seed) a = rw (ap letter a.are) refl
+    → a ≡ make (letters words) (word-at 1 words) (word-at 2 words) (number-of a)
+made words (Check file) a = rw (ap letters a.are, ap (word-at 1) a.are) refl
+made words (Value file) a = rw (ap letters a.are, ap (word-at 1) a.are) refl
+made words (Reserves file every) a = rw (ap letters a.are, ap (word-at 1) a.are) refl
+made words (Occupancy file every) a = rw (ap letters a.are, ap (word-at 1) a.are) refl
+made words (Moments file every) a = rw (ap letters a.are, ap (word-at 1) a.are) refl
+made words (Premium file) a = rw (ap letters a.are, ap (word-at 1) a.are) refl
+made words (Generate seed) a = rw (ap letters a.are) refl
+made words (Compare first second every) a =
+    rw (ap letters a.are, ap (word-at 1) a.are, ap (word-at 2) a.are) refl
 
-written : (words : List (List ℕ)) (a : Request) → AreReadAs words a → decimal (number-of a) ≡ text (letter words) words
-written words (Check file) a = rw (ap letter a.are) refl
-written words (Value file) a = rw (ap letter a.are) refl
-written words (Reserves file every) a = rw (ap letter a.are) (sym (ap (word-at 2) a.are))
-written words (Occupancy file every) a = rw (ap letter a.are) (sym (ap (word-at 2) a.are))
-written words (Moments file every) a = rw (ap letter a.are) (sym (ap (word-at 2) a.are))
-written words (Premium file) a = rw (ap letter a.are) refl
-written words (Generate seed) a = rw (ap letter a.are) (sym (ap (word-at 1) a.are))
+written : (words : List (List ℕ)) (a : Request) → AreReadAs words a
+    → decimal (number-of a) ≡ text (letters words) words
+written words (Check file) a = rw (ap letters a.are) refl
+written words (Value file) a = rw (ap letters a.are) refl
+written words (Reserves file every) a = rw (ap letters a.are) (sym (ap (word-at 2) a.are))
+written words (Occupancy file every) a = rw (ap letters a.are) (sym (ap (word-at 2) a.are))
+written words (Moments file every) a = rw (ap letters a.are) (sym (ap (word-at 2) a.are))
+written words (Premium file) a = rw (ap letters a.are) refl
+written words (Generate seed) a = rw (ap letters a.are) (sym (ap (word-at 1) a.are))
+written words (Compare first second every) a = rw (ap letters a.are) (sym (ap (word-at 3) a.are))
 
 fits : (words : List (List ℕ)) (a : Request) → AreReadAs words a → number-of a < 2 ^ 64
 fits words (Check file) a = lit< tt
@@ -61,9 +69,10 @@ fits words (Occupancy file every) a = omega (arith, a.most)
 fits words (Moments file every) a = omega (arith, a.most)
 fits words (Premium file) a = lit< tt
 fits words (Generate seed) a = a.fits
+fits words (Compare first second every) a = omega (arith, a.most)
 
 pub readings_are_one : ReadingsAreOne
 readings_are_one words a b x y =
     let numbers : number-of a ≡ number-of b =
     decimal_injective _ _ (fits words a x) (fits words b y) (written words a x ∙ sym (written words b y)) in
-    made words a x ∙ ap (make (letter words) (word-at 1 words)) numbers ∙ sym (made words b y)
+    made words a x ∙ ap (make (letters words) (word-at 1 words) (word-at 2 words)) numbers ∙ sym (made words b y)

@@ -6,7 +6,7 @@ use Rattle.std.specs.declared.alloc.Global.{Global}
 abbrev pub words_of : List (String Global) → List (List ℕ)
 words_of words = map string_bytes words
 
--- what can be asked for: of a file by its name; at each so many months; or of a seed
+-- what can be asked for: of a file or of two by their names; at each so many months; or of a seed
 pub data Request : Type 0 where
   Check : List ℕ → Request
   Value : List ℕ → Request
@@ -15,6 +15,7 @@ pub data Request : Type 0 where
   Moments : List ℕ → ℕ → Request
   Premium : List ℕ → Request
   Generate : ℕ → Request
+  Compare : List ℕ → List ℕ → ℕ → Request
 
 -- the words are a command and the name of a file, which has at least one byte
 pub record AsksOfFile (words : List (List ℕ)) (command file : List ℕ) : Type 0 where
@@ -25,6 +26,14 @@ pub record AsksOfFile (words : List (List ℕ)) (command file : List ℕ) : Type
 pub record AsksAtDates (words : List (List ℕ)) (command file : List ℕ) (every : ℕ) : Type 0 where
   pub are : words ≡ command ∷ file ∷ decimal every ∷ []
   pub named : 0 < length file
+  pub least : 1 ≤ every
+  pub most : every ≤ 1200
+
+-- the words are a command, the names of two files, and such a number of months
+pub record AsksOfFilesAtDates (words : List (List ℕ)) (command first second : List ℕ) (every : ℕ) : Type 0 where
+  pub are : words ≡ command ∷ first ∷ second ∷ decimal every ∷ []
+  pub first_named : 0 < length first
+  pub second_named : 0 < length second
   pub least : 1 ≤ every
   pub most : every ≤ 1200
 
@@ -42,6 +51,7 @@ AreReadAs words (Occupancy file every) = AsksAtDates words (codes "occupancy") f
 AreReadAs words (Moments file every) = AsksAtDates words (codes "moments") file every
 AreReadAs words (Premium file) = AsksOfFile words (codes "premium") file
 AreReadAs words (Generate seed) = AsksOfSeed words seed
+AreReadAs words (Compare first second every) = AsksOfFilesAtDates words (codes "compare") first second every
 
 -- the words have a reading
 abbrev pub HaveReading : List (List ℕ) → Type 0

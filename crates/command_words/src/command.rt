@@ -26,6 +26,8 @@ pub enum Command<'a> {
     Premium(&'a str),
     /// Print the product file that is generated from a seed.
     Generate(u64),
+    /// The changes of the reserves from the basis of the first file to that of the second, at these dates.
+    Compare(&'a str, &'a str, u32),
 }
 
 // A command about one file, or one seed.
@@ -80,6 +82,29 @@ fn three_words<'a>(command: &str, file: &'a str, every: &str) -> Option<Command<
     }
 }
 
+// A command about two files at dates.
+fn four_words<'a>(
+    command: &str,
+    first: &'a str,
+    second: &'a str,
+    every: &str,
+) -> Option<Command<'a>>
+    ensures some { IfSome result (λ read.
+        AreReadAs (command.now ∷ first.now ∷ second.now ∷ every.now ∷ []) (request_of read)) }
+    ensures none { IfNone result (¬ HaveReading (command.now ∷ first.now ∷ second.now ∷ every.now ∷ [])) }
+{
+    let Some(every) = months_of(every) else {
+        return None;
+    };
+    if first.is_empty() || second.is_empty() {
+        return None;
+    }
+    match command {
+        "compare" => Some(Command::Compare(first, second, every)),
+        _ => None,
+    }
+}
+
 /// What the words ask for; `None` exactly where they have no reading. Takes no memory.
 pub fn read_words(words: &[String]) -> Option<Command<'_>>
     ensures some { IfSome result (λ read. AreReadAs (words_of words.entry.now) (request_of read)) }
@@ -88,6 +113,14 @@ pub fn read_words(words: &[String]) -> Option<Command<'_>>
     match words {
         [command, word] => two_words(command.as_str(), word.as_str()),
         [command, file, every] => three_words(command.as_str(), file.as_str(), every.as_str()),
+        [command, first, second, every] => {
+            four_words(
+                command.as_str(),
+                first.as_str(),
+                second.as_str(),
+                every.as_str(),
+            )
+        }
         _ => None,
     }
 }

@@ -18,6 +18,7 @@ fn words_and_their_readings(rt: HostRuntime) {
         ("occupancy a 1200", Some(Command::Occupancy("a", 1200))),
         ("moments a 1", Some(Command::Moments("a", 1))),
         ("premium a", Some(Command::Premium("a"))),
+        ("compare a b 12", Some(Command::Compare("a", "b", 12))),
         ("generate 0", Some(Command::Generate(0))),
         (
             "generate 18446744073709551615",
@@ -32,6 +33,10 @@ fn words_and_their_readings(rt: HostRuntime) {
         ("reserves a 012", None),
         ("reserves a 1x", None),
         ("moments  1", None),
+        ("compare a  1", None),
+        ("compare a b 1201", None),
+        ("compare a b", None),
+        ("reserves a b 12", None),
         ("value ", None),
         ("value", None),
         ("value a b", None),

@@ -1,72 +1,114 @@
 -- From the verdict on a file to the answer of the words that name it.
 use Rattle.std.proofs.Common.{◌≡◌, ℕ, ◌≤◌, List, length, inl, inr, refl, subst}
-use Rattle.std.specs.Prelude.{Some, None, Result, Ok, Err, IfOk, Vec}
+use Rattle.std.specs.Prelude.{Some, None, Ok, Err, Vec}
 use Rattle.std.specs.declared.alloc.Global.{Global}
 use Rattle.named_numbers.specs.Numbers.{most_file_bytes}
 use Rattle.io_ports.specs.Files.{AnswersFrom}
+use Rattle.io_ports.specs.declared.shelf.FetchError.TheVariants as fetch
 use Rattle.command_words.specs.Readings.{Request, AreReadAs, HaveReading}
-use Rattle.rule_breaks.specs.Breaks.{break_of}
 use Rattle.model_specs.specs.Product.{Product}
-use Rattle.rule_breaks.specs.declared.breaks.RuleBreak.{RuleBreak}
 use Rattle.thiele_cli.specs.declared.answer.Answer.{Answer}
 use Rattle.thiele_cli.specs.declared.answer.Answer.TheVariants as answer
+use Rattle.thiele_cli.specs.declared.file_break.FileBreak.{FileBreak}
+use Rattle.thiele_cli.specs.declared.file_break.FileBreak.TheVariants as file
 use Rattle.thiele_cli.specs.declared.question.Question.{Question}
+use Rattle.thiele_cli.specs.declared.pair_question.PairQuestion.{PairQuestion}
 use Rattle.thiele_cli.specs.declared.refusal.Refusal.TheVariants as refusal
 use Rattle.thiele_cli.specs.declared.verdict.Verdict.{Verdict}
 use Rattle.thiele_cli.specs.declared.verdict.Verdict.TheVariants as verdict
-use Rattle.thiele_cli.specs.Questions.{OfFile, OfSeed, asked_of}
-use Rattle.thiele_cli.specs.Cases.{Files, AreTold, NoReading, Generated, NoToml, Broken, Answered}
-use Rattle.thiele_cli.specs.Replies.{AnswersQuestion, IsGenerated}
+use Rattle.thiele_cli.specs.Questions.{OfFile, OfFiles, OfSeed, asked_of}
+use Rattle.thiele_cli.specs.Cases.{Files, IsLong, AreBytesOf, HasFault, HasProduct}
+use Rattle.thiele_cli.specs.Cases.{NoReading, Generated, FirstRefused, SecondRefused, Answered, AnsweredOfTwo}
+use Rattle.thiele_cli.specs.Replies.{AnswersQuestion, AnswersOfTwo, IsGenerated}
 use Rattle.thiele_cli.specs.Ends.{IsAnswer}
-use Rattle.thiele_cli.specs.FileAnswers.{AnswersFile, AnswersAsked}
-use Rattle.thiele_cli.specs.Verdicts.{IsVerdictOn}
+use Rattle.thiele_cli.specs.AskedAnswers.{AnswersAsked}
+use Rattle.thiele_cli.specs.Verdicts.{IsVerdictOn, IsVerdictOnFile}
 
--- the answer about a product that breaks no rule is that of its file
-pub product_answers : {E : Type 0} (question : Question) (bytes : List ℕ) (v : Verdict) (product : Product)
-    (r : Result Answer E) → IsVerdictOn bytes v → v ≡ verdict.Admitted product
-    → IfOk r (AnswersQuestion question product) → IfOk r (AnswersFile question bytes)
-product_answers question bytes v product (Ok given) h e says = record {
-  case = Answered question product;
-  holds = inr (inr (product, subst (IsVerdictOn bytes) e h, refl));
-  says = says;
-}
-product_answers question bytes v product (Err e) h is says = tt
+-- ---- files
 
--- a file that is no TOML is refused
-pub no_toml_answers : (question : Question) (bytes : List ℕ) (v : Verdict) → IsVerdictOn bytes v → v ≡ verdict.NotToml
-    → AnswersFile question bytes (answer.Refused refusal.Toml)
-no_toml_answers question bytes v h e =
-    record { case = NoToml; holds = inl (subst (IsVerdictOn bytes) e h, refl); says = refl }
+-- the bytes that a shelf gave are those that it tells
+pub bytes_of : (files : Files) (name : List ℕ) (bytes : Vec ℕ Global)
+    → AnswersFrom files name most_file_bytes (Ok bytes)
+    → length bytes.items ≤ most_file_bytes → AreBytesOf files name bytes.items
+bytes_of None name bytes from short = record { told = tt; short = short }
+bytes_of (Some files) name bytes from short = record { told = from; short = short }
 
--- and so is one that breaks a rule
-pub rule_answers : (question : Question) (bytes : List ℕ) (v : Verdict) (found : RuleBreak) → IsVerdictOn bytes v
-    → v ≡ verdict.Rule found → AnswersFile question bytes (answer.Refused (refusal.Rule found))
-rule_answers question bytes v found h e = record {
-  case = Broken (break_of found);
-  holds = inr (inl (break_of found, subst (IsVerdictOn bytes) e h, refl));
+-- and a file that it calls too long is long
+pub long_file : (files : Files) (name : List ℕ) (seen : ℕ)
+    → AnswersFrom files name most_file_bytes (Err (fetch.TooLong seen)) → IsLong files name
+long_file None name seen from = tt
+long_file (Some files) name seen from = from
+
+-- the verdict on the bytes of a file is that on the file
+pub verdict_of_file : (files : Files) (name bytes : List ℕ) (v : Verdict) → AreBytesOf files name bytes
+    → IsVerdictOn bytes v → IsVerdictOnFile files name v
+verdict_of_file files name bytes (verdict.Admitted product) given says = (bytes, given, says)
+verdict_of_file files name bytes (verdict.Refused (file.TooLong seen)) given says = absurd says
+verdict_of_file files name bytes (verdict.Refused file.NotToml) given says = (bytes, given, says)
+verdict_of_file files name bytes (verdict.Refused (file.Rule found)) given says = (bytes, given, says)
+
+-- a product that is admitted is that of the file, over the same files
+pub product_of : (given files : Files) (name : List ℕ) (v : Verdict) (product : Product) → given ≡ files
+    → v ≡ verdict.Admitted product → IsVerdictOnFile given name v → HasProduct files name product
+product_of given files name v product same is says =
+    subst (λ told. HasProduct told name product) same (subst (IsVerdictOnFile given name) is says)
+
+-- and a cause by which it is refused is its fault
+pub fault_of : (given files : Files) (name : List ℕ) (v : Verdict) (cause : FileBreak) → given ≡ files
+    → v ≡ verdict.Refused cause → IsVerdictOnFile given name v → HasFault files name cause
+fault_of given files name v cause same is says =
+    subst (λ told. HasFault told name cause) same (subst (IsVerdictOnFile given name) is says)
+
+-- ---- what is asked
+
+-- a file that is refused
+pub refused_file : (files : Files) (question : Question) (name : List ℕ) (cause : FileBreak) → HasFault files name cause
+    → AnswersAsked files (OfFile question name) (answer.Refused (refusal.First cause))
+refused_file files question name cause fault =
+    record { case = FirstRefused cause; holds = inl (cause, fault, refl); says = refl }
+
+-- a product of which this is asked
+pub answered_file : (files : Files) (question : Question) (name : List ℕ) (product : Product) (given : Answer)
+    → HasProduct files name product → AnswersQuestion question product given
+    → AnswersAsked files (OfFile question name) given
+answered_file files question name product given has says =
+    record { case = Answered question product; holds = inr (product, has, refl); says = says }
+
+-- the first of two files is refused
+pub refused_first : (files : Files) (question : PairQuestion) (first second : List ℕ) (cause : FileBreak)
+    → HasFault files first cause
+    → AnswersAsked files (OfFiles question first second) (answer.Refused (refusal.First cause))
+refused_first files question first second cause fault =
+    record { case = FirstRefused cause; holds = inl (cause, fault, refl); says = refl }
+
+-- the second is
+pub refused_second : (files : Files) (question : PairQuestion) (first second : List ℕ) (old : Product)
+    (cause : FileBreak)
+    → HasProduct files first old → HasFault files second cause
+    → AnswersAsked files (OfFiles question first second) (answer.Refused (refusal.Second cause))
+refused_second files question first second old cause has fault = record {
+  case = SecondRefused cause;
+  holds = inr (old, has, inl (cause, fault, refl));
   says = refl;
 }
 
--- the bytes that a shelf gave are those that it tells, and a file that it calls too long is long
-told : (files : Files) (name : List ℕ) (bytes : Vec ℕ Global) → AnswersFrom files name most_file_bytes (Ok bytes)
-    → AreTold files name bytes.items
-told None name bytes from = tt
-told (Some files) name bytes from = from
-
--- the answer of the bytes that a shelf gave is that of what is asked
-pub file_answers : (files : Files) (question : Question) (name : List ℕ) (bytes : Vec ℕ Global) (given : Answer)
-    → AnswersFrom files name most_file_bytes (Ok bytes) → length bytes.items ≤ most_file_bytes
-    → AnswersFile question bytes.items given → AnswersAsked files (OfFile question name) given
-file_answers files question name bytes given from short s = record {
-  case = s.case;
-  holds = inr (bytes.items, told files name bytes from, short, s.holds);
-  says = s.says;
+-- two products of which this is asked
+pub answered_pair : (files : Files) (question : PairQuestion) (first second : List ℕ) (old new : Product)
+    (given : Answer)
+    → HasProduct files first old → HasProduct files second new → AnswersOfTwo question old new given
+    → AnswersAsked files (OfFiles question first second) given
+answered_pair files question first second old new given has_old has_new says = record {
+  case = AnsweredOfTwo question old new;
+  holds = inr (old, has_old, inr (new, has_new, refl));
+  says = says;
 }
 
 -- the product file of a seed is that of what is asked
 pub seed_answers : (files : Files) (seed : ℕ) (given : Answer) → IsGenerated seed given
     → AnswersAsked files (OfSeed seed) given
 seed_answers files seed given says = record { case = Generated seed; holds = refl; says = says }
+
+-- ---- words
 
 -- the answer of a request is that of the words that are read as it
 pub request_answers : (files : Files) (words : List (List ℕ)) (request : Request) (given : Answer)

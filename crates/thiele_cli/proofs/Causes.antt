@@ -6,9 +6,10 @@ use Rattle.reserve_report.specs.declared.report.Report.{Report}
 use Rattle.thiele_cli.specs.declared.answer.Answer.{Answer}
 use Rattle.thiele_cli.specs.declared.end.End.{End}
 use Rattle.thiele_cli.specs.declared.end.End.TheVariants as end
+use Rattle.thiele_cli.specs.declared.end.Extra.{Extra}
 use Rattle.thiele_cli.specs.Cases.{Files, Case, IsCase}
-use Rattle.thiele_cli.specs.Replies.{end_of, report_of, Answers}
-use Rattle.thiele_cli.specs.Ends.{IsFault, IsAnswer, LeadTo, LeadToReport, ComesBy}
+use Rattle.thiele_cli.specs.Replies.{end_of, report_of, extra_of, Answers}
+use Rattle.thiele_cli.specs.Ends.{IsExtra, IsFault, IsAnswer, LeadTo, LeadToReport, LeadToExtra, ComesBy}
 use Rattle.thiele_cli.specs.Outcome.{EndsAs}
 use Rattle.thiele_cli.proofs.OneCase.{one_case}
 
@@ -41,6 +42,12 @@ pub reported : (files : Files) (words : List (List ℕ)) (given : Answer) (repor
     → IsAnswer files words given → report ≡ report_of given → LeadToReport files words → IsSome files → IsSome report
 reported files words given report a is cause told =
     subst IsSome (sym is) (cause.reports given (of_case files words given cause.case told a cause.holds))
+
+-- and so is what else an answer has
+pub has_extra : (files : Files) (words : List (List ℕ)) (given : Answer) (extra : Extra)
+    → IsAnswer files words given → extra ≡ extra_of given → LeadToExtra files words → IsSome files → IsExtra extra
+has_extra files words given extra a is cause told =
+    subst IsExtra (sym is) (cause.has given (of_case files words given cause.case told a cause.holds))
 
 -- with no fault of the sink each case has its end
 pub completes : (files : Files) (words : List (List ℕ)) (given : Answer) (reached own : End) (Faulty : Type 0)

@@ -1,5 +1,6 @@
 pub mod Answered
 pub mod Causes
+pub mod Comparisons
 pub mod Growth
 pub mod MonthGrids
 pub mod OneCase

@@ -1,48 +1,99 @@
 -- Words over told files come to one case only.
-use Rattle.std.proofs.Common.{◌≡◌, ℕ, ◌≤◌, List, Some, None, IsSome, inl, inr, sym, subst, ap, ◌∙◌, arith}
-use Rattle.std.specs.Prelude.{length}
-use Rattle.named_numbers.specs.Numbers.{most_file_bytes}
-use Rattle.io_ports.specs.Files.{file_of}
+use Rattle.std.proofs.Common.{◌≡◌, ℕ, List, Some, None, IsSome, inl, inr, sym, subst, ap, ◌∙◌, arith}
+use Rattle.rule_breaks.specs.Breaks.{break_of}
+use Rattle.rule_breaks.specs.declared.breaks.RuleBreak.{RuleBreak}
+use Rattle.model_specs.specs.ValuationRules as model
+use Rattle.model_specs.specs.Product.{Product}
+use Rattle.product_file.specs.Verdict.{IsNotToml, Breaks}
 use Rattle.command_words.proofs.Readings.{readings_are_one}
-use Rattle.thiele_cli.specs.declared.question.Question.{Question}
-use Rattle.thiele_cli.specs.Questions.{Asked, OfFile, OfSeed, asked_of}
-use Rattle.thiele_cli.specs.Cases.{Files, IsLong, Case, Broken, Answered}
-use Rattle.thiele_cli.specs.Cases.{IsFileCase, IsNamedCase, IsAskedCase, IsCase}
+use Rattle.thiele_cli.specs.declared.file_break.FileBreak.{FileBreak}
+use Rattle.thiele_cli.specs.declared.file_break.FileBreak.TheVariants as file
+use Rattle.thiele_cli.specs.Questions.{Asked, OfFile, OfFiles, OfSeed, asked_of}
+use Rattle.thiele_cli.specs.Cases.{Files, IsLong, AreBytesOf, HasFault, HasProduct}
+use Rattle.thiele_cli.specs.Cases.{Case, FirstRefused, SecondRefused, Answered, AnsweredOfTwo}
+use Rattle.thiele_cli.specs.Cases.{IsFileCase, IsSecondCase, IsAskedCase, IsCase}
 use Rattle.thiele_cli.proofs.Verdicts.{one-product, one-break, valid-or-broken, toml-or-broken, toml-or-valid}
 
--- bytes of which this is asked come to one case
-one_file_case : (question : Question) (bytes : List ℕ) (a b : Case) → IsFileCase question bytes a
-    → IsFileCase question bytes b → a ≡ b
-one_file_case question bytes a b (inl x) (inl y) = x.1 ∙ sym y.1
-one_file_case question bytes a b (inl x) (inr (inl y)) = absurd (toml-or-broken bytes y.0 x.0 y.1)
-one_file_case question bytes a b (inl x) (inr (inr y)) = absurd (toml-or-valid bytes y.0 x.0 y.1)
-one_file_case question bytes a b (inr (inl x)) (inl y) = absurd (toml-or-broken bytes x.0 y.0 x.1)
-one_file_case question bytes a b (inr (inl x)) (inr (inl y)) =
-    x.2 ∙ ap Broken (one-break bytes x.0 y.0 x.1 y.1) ∙ sym y.2
-one_file_case question bytes a b (inr (inl x)) (inr (inr y)) = absurd (valid-or-broken bytes y.0 x.0 y.1 x.1)
-one_file_case question bytes a b (inr (inr x)) (inl y) = absurd (toml-or-valid bytes x.0 y.0 x.1)
-one_file_case question bytes a b (inr (inr x)) (inr (inl y)) = absurd (valid-or-broken bytes x.0 y.0 x.1 y.1)
-one_file_case question bytes a b (inr (inr x)) (inr (inr y)) =
-    x.2 ∙ ap (λ product. Answered question product) (one-product bytes x.0 y.0 x.1.reads y.1.reads) ∙ sym y.2
+-- ---- files
+
+-- a file has one list of bytes
+one_text : (files : List (List ℕ × List ℕ)) (name a b : List ℕ) → AreBytesOf (Some files) name a
+    → AreBytesOf (Some files) name b → a ≡ b
+one_text files name a b x y = cc (x.told, y.told)
 
 -- a file is too long or not
-not_long : (files : List (List ℕ × List ℕ)) (name bytes : List ℕ) → file_of name files ≡ Some bytes
-    → length bytes ≤ most_file_bytes → IsLong (Some files) name → ⊥
-not_long files name bytes told short long = let there = rw told at long in omega (arith, there, short)
+not_long : (files : List (List ℕ × List ℕ)) (name bytes : List ℕ) → AreBytesOf (Some files) name bytes
+    → IsLong (Some files) name → ⊥
+not_long files name bytes given long = let there = rw given.told at long in omega (arith, there, given.short)
 
--- a file of which this is asked comes to one case
-one_named_case : (files : List (List ℕ × List ℕ)) (question : Question) (name : List ℕ) (a b : Case)
-    → IsNamedCase (Some files) question name a → IsNamedCase (Some files) question name b → a ≡ b
-one_named_case files question name a b (inl x) (inl y) = x.1 ∙ sym y.1
-one_named_case files question name a b (inl x) (inr y) = absurd (not_long files name y.0 y.1 y.2 x.0)
-one_named_case files question name a b (inr x) (inl y) = absurd (not_long files name x.0 x.1 x.2 y.0)
-one_named_case files question name a b (inr x) (inr y) =
-    let same : x.0 ≡ y.0 = cc (x.1, y.1) in
-    one_file_case question y.0 a b (subst (λ bytes. IsFileCase question bytes a) same x.3) y.3
+-- a broken rule is told by its two numbers
+same_rule : (a b : RuleBreak) → break_of a ≡ break_of b → a ≡ b
+same_rule a b same = ap (λ (found : model.RuleBreak). record { rule = found.rule; place = found.place }) same
+
+-- what breaks a rule first, of the same bytes
+one_rule : (bytes other : List ℕ) (a b : RuleBreak) → bytes ≡ other → Breaks bytes (break_of a)
+    → Breaks other (break_of b) → a ≡ b
+one_rule bytes other a b same x y =
+    same_rule a b (one-break other (break_of a) (break_of b) (subst (λ text. Breaks text (break_of a)) same x) y)
+
+-- a file has one fault
+one_fault : (files : List (List ℕ × List ℕ)) (name : List ℕ) (a b : FileBreak) → HasFault (Some files) name a
+    → HasFault (Some files) name b → a ≡ b
+one_fault files name (file.TooLong s) (file.TooLong t) x y = ap (λ seen. file.TooLong seen) (x.1 ∙ sym y.1)
+one_fault files name (file.TooLong s) file.NotToml x y = absurd (not_long files name y.0 y.1 x.0)
+one_fault files name (file.TooLong s) (file.Rule b) x y = absurd (not_long files name y.0 y.1 x.0)
+one_fault files name file.NotToml (file.TooLong t) x y = absurd (not_long files name x.0 x.1 y.0)
+one_fault files name file.NotToml file.NotToml x y = cc
+one_fault files name file.NotToml (file.Rule b) x y =
+    absurd (toml-or-broken y.0 (break_of b) (subst IsNotToml (one_text files name x.0 y.0 x.1 y.1) x.2) y.2)
+one_fault files name (file.Rule a) (file.TooLong t) x y = absurd (not_long files name x.0 x.1 y.0)
+one_fault files name (file.Rule a) file.NotToml x y =
+    absurd (toml-or-broken x.0 (break_of a) (subst IsNotToml (one_text files name y.0 x.0 y.1 x.1) y.2) x.2)
+one_fault files name (file.Rule a) (file.Rule b) x y =
+    ap (λ found. file.Rule found) (one_rule x.0 y.0 a b (one_text files name x.0 y.0 x.1 y.1) x.2 y.2)
+
+-- or a product
+fault_or_product : (files : List (List ℕ × List ℕ)) (name : List ℕ) (a : FileBreak) (p : Product)
+    → HasFault (Some files) name a → HasProduct (Some files) name p → ⊥
+fault_or_product files name (file.TooLong s) p x y = not_long files name y.0 y.1 x.0
+fault_or_product files name file.NotToml p x y =
+    toml-or-valid y.0 p (subst IsNotToml (one_text files name x.0 y.0 x.1 y.1) x.2) y.2
+fault_or_product files name (file.Rule a) p x y =
+    valid-or-broken y.0 p (break_of a) y.2
+    (subst (λ text. Breaks text (break_of a)) (one_text files name x.0 y.0 x.1 y.1) x.2)
+
+-- and one product
+one_file_product : (files : List (List ℕ × List ℕ)) (name : List ℕ) (p q : Product) → HasProduct (Some files) name p
+    → HasProduct (Some files) name q → p ≡ q
+one_file_product files name p q x y =
+    one-product y.0 p q
+    (rw (← one_text files name x.0 y.0 x.1 y.1) x.2.reads) y.2.reads
+
+-- ---- cases
+
+-- a file comes to one case, where each product does
+one_file_case : (files : List (List ℕ × List ℕ)) (name : List ℕ) (refused : FileBreak → Case)
+    (IsRest : Product → Case → Type 0) (a b : Case)
+    → ((product : Product) (a b : Case) → IsRest product a → IsRest product b → a ≡ b)
+    → IsFileCase (Some files) name refused IsRest a → IsFileCase (Some files) name refused IsRest b → a ≡ b
+one_file_case files name refused IsRest a b one_rest (inl x) (inl y) =
+    x.2 ∙ ap refused (one_fault files name x.0 y.0 x.1 y.1) ∙ sym y.2
+one_file_case files name refused IsRest a b one_rest (inl x) (inr y) =
+    absurd (fault_or_product files name x.0 y.0 x.1 y.1)
+one_file_case files name refused IsRest a b one_rest (inr x) (inl y) =
+    absurd (fault_or_product files name y.0 x.0 y.1 x.1)
+one_file_case files name refused IsRest a b one_rest (inr x) (inr y) =
+    one_rest y.0 a b (subst (λ product. IsRest product a) (one_file_product files name x.0 y.0 x.1 y.1) x.2) y.2
 
 one_asked_case : (files : List (List ℕ × List ℕ)) (asked : Asked) (a b : Case) → IsAskedCase (Some files) asked a
     → IsAskedCase (Some files) asked b → a ≡ b
-one_asked_case files (OfFile question name) a b x y = one_named_case files question name a b x y
+one_asked_case files (OfFile what name) a b x y =
+    one_file_case files name FirstRefused (λ product rest. rest ≡ Answered what product) a b
+    (λ product c d s t. s ∙ sym t) x y
+one_asked_case files (OfFiles what first second) a b x y =
+    one_file_case files first FirstRefused (IsSecondCase (Some files) what second) a b
+    (λ old c d s t. one_file_case files second SecondRefused (λ new rest. rest ≡ AnsweredOfTwo what old new) c d
+    (λ new e f u v. u ∙ sym v) s t) x y
 one_asked_case files (OfSeed seed) a b x y = x ∙ sym y
 
 -- words over told files are of one case

@@ -5,7 +5,7 @@ use Rattle.command_words.proofs.Readings.{readings_are_one}
 use Rattle.thiele_cli.specs.declared.answer.Answer.{Answer}
 use Rattle.thiele_cli.specs.declared.end.End.{End}
 use Rattle.thiele_cli.specs.declared.end.End.TheVariants as end
-use Rattle.thiele_cli.specs.Questions.{OfFile, OfSeed, asked_of, IsAskedOf}
+use Rattle.thiele_cli.specs.Questions.{asked_of, IsAskedOf}
 use Rattle.thiele_cli.specs.Cases.{Files, Case, Generated, IsAskedCase, IsCase}
 use Rattle.thiele_cli.specs.Replies.{end_of, Answers, IsGenerated}
 use Rattle.thiele_cli.specs.Ends.{IsAnswer}
@@ -33,7 +33,4 @@ seed_ends files words seed given reached read a (inr fault) = inr (inr fault)
 pub no_file_of_seed : (words : List (List ℕ)) (request : Request) (seed : ℕ) (file : List ℕ)
     → AreReadAs words request → IsAskedOf (asked_of request) file → AreReadAs words (Generate seed) → ⊥
 no_file_of_seed words request seed file read asked of_seed =
-    let other : OfSeed seed ≡ OfFile asked.0 file =
-    subst (λ r. asked_of r ≡ OfFile asked.0 file)
-    (readings_are_one words request (Generate seed) read of_seed) asked.1 in
-    cc
+    subst (λ r. IsAskedOf (asked_of r) file) (readings_are_one words request (Generate seed) read of_seed) asked

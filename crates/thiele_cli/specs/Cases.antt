@@ -1,13 +1,16 @@
--- What the words and the file that they name come to, for the files that a shelf tells.
-use Rattle.std.specs.Prelude.{◌≡◌, ◌⊎◌, ℕ, ◌≤◌, List, ⊤, Option, Some, None, length}
+-- What the words and the files that they name come to, for the files that a shelf tells.
+use Rattle.std.specs.Prelude.{◌≡◌, ◌⊎◌, ℕ, ◌+◌, ◌≤◌, List, ⊤, Option, Some, None, length}
 use Rattle.named_numbers.specs.Numbers.{most_file_bytes}
 use Rattle.io_ports.specs.Files.{file_of, IsLonger}
+use Rattle.rule_breaks.specs.Breaks.{break_of}
 use Rattle.model_specs.specs.Product.{Product}
-use Rattle.model_specs.specs.ValuationRules.{RuleBreak}
 use Rattle.product_file.specs.Verdict.{IsNotToml, IsValid, Breaks}
 use Rattle.command_words.specs.Readings.{Request, AreReadAs, HaveReading}
+use Rattle.thiele_cli.specs.declared.file_break.FileBreak.{FileBreak}
+use Rattle.thiele_cli.specs.declared.file_break.FileBreak.TheVariants as file
 use Rattle.thiele_cli.specs.declared.question.Question.{Question}
-use Rattle.thiele_cli.specs.Questions.{Asked, OfFile, OfSeed, asked_of}
+use Rattle.thiele_cli.specs.declared.pair_question.PairQuestion.{PairQuestion}
+use Rattle.thiele_cli.specs.Questions.{Asked, OfFile, OfFiles, OfSeed, asked_of}
 
 -- what a shelf tells of its files: the names with their bytes, or nothing
 abbrev pub Files : Type 0
@@ -18,38 +21,54 @@ abbrev pub AreTold : Files → List ℕ → List ℕ → Type 0
 AreTold None name bytes = ⊤
 AreTold (Some files) name bytes = file_of name files ≡ Some bytes
 
--- the file of that name has more bytes than a product file may have, where files are told
+-- the file of that name has more bytes than a file may have, where files are told
 abbrev pub IsLong : Files → List ℕ → Type 0
 IsLong None name = ⊤
 IsLong (Some files) name = IsLonger (Some files) name most_file_bytes
 
--- what words and files come to: no reading, a seed, a file that is too long, that is no TOML or that breaks a rule, or
--- a question about a product that breaks none
+-- the file of that name has these bytes, and no more than a file may have
+pub record AreBytesOf (files : Files) (name bytes : List ℕ) : Type 0 where
+  pub told : AreTold files name bytes
+  pub short : length bytes ≤ most_file_bytes
+
+-- the file of that name is refused: it is too long, it is no TOML, or it breaks this rule first
+abbrev pub HasFault : Files → List ℕ → FileBreak → Type 0
+HasFault files name (file.TooLong seen) = IsLong files name × (seen ≡ most_file_bytes + 1)
+HasFault files name file.NotToml = (bytes : List ℕ) × AreBytesOf files name bytes × IsNotToml bytes
+HasFault files name (file.Rule found) =
+    (bytes : List ℕ) × AreBytesOf files name bytes × Breaks bytes (break_of found)
+
+-- the file of that name has this product, which breaks no rule
+abbrev pub HasProduct : Files → List ℕ → Product → Type 0
+HasProduct files name product = (bytes : List ℕ) × AreBytesOf files name bytes × IsValid bytes product
+
+-- what words and files come to: no reading, a seed, a first or a second file that is refused, or a question about a
+-- product or about two that break no rule
 pub data Case : Type 0 where
   NoReading : Case
   Generated : ℕ → Case
-  TooLong : Case
-  NoToml : Case
-  Broken : RuleBreak → Case
+  FirstRefused : FileBreak → Case
+  SecondRefused : FileBreak → Case
   Answered : Question → Product → Case
+  AnsweredOfTwo : PairQuestion → Product → Product → Case
 
--- what the bytes of a file come to where this is asked of them: they are no TOML, they break this rule first, or they
--- have this product
-abbrev pub IsFileCase : Question → List ℕ → Case → Type 0
-IsFileCase question bytes case =
-    (IsNotToml bytes × (case ≡ NoToml))
-    ⊎ ((found : RuleBreak) × Breaks bytes found × (case ≡ Broken found))
-    ⊎ ((product : Product) × IsValid bytes product × (case ≡ Answered question product))
+-- what a product file comes to: it is refused, or it has a product that comes to the rest
+abbrev pub IsFileCase : Files → List ℕ → (FileBreak → Case) → (Product → Case → Type 0) → Case → Type 0
+IsFileCase files name refused IsRest case =
+    ((cause : FileBreak) × HasFault files name cause × (case ≡ refused cause))
+    ⊎ ((product : Product) × HasProduct files name product × IsRest product case)
 
--- what a name comes to where this is asked of its file: the file is too long, or it has these bytes
-abbrev pub IsNamedCase : Files → Question → List ℕ → Case → Type 0
-IsNamedCase files question name case =
-    (IsLong files name × (case ≡ TooLong))
-    ⊎ ((bytes : List ℕ) × AreTold files name bytes × (length bytes ≤ most_file_bytes) × IsFileCase question bytes case)
+-- what a second product file comes to, where this is asked of it and a first product
+abbrev pub IsSecondCase : Files → PairQuestion → List ℕ → Product → Case → Type 0
+IsSecondCase files what name old case =
+    IsFileCase files name SecondRefused (λ new rest. rest ≡ AnsweredOfTwo what old new) case
 
--- what a request comes to by what it asks
+-- what a request comes to by what it asks; a second file is looked at only where the first has a product
 abbrev pub IsAskedCase : Files → Asked → Case → Type 0
-IsAskedCase files (OfFile question name) case = IsNamedCase files question name case
+IsAskedCase files (OfFile what name) case =
+    IsFileCase files name FirstRefused (λ product rest. rest ≡ Answered what product) case
+IsAskedCase files (OfFiles what first second) case =
+    IsFileCase files first FirstRefused (IsSecondCase files what second) case
 IsAskedCase files (OfSeed seed) case = case ≡ Generated seed
 
 -- what the words come to: they have no reading, or they are read as this request

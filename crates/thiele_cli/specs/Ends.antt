@@ -3,8 +3,10 @@ use Rattle.std.specs.Prelude.{◌≡◌, ◌≢◌, ◌⊎◌, ℕ, List, [], �
 use Rattle.thiele_cli.specs.declared.answer.Answer.{Answer}
 use Rattle.thiele_cli.specs.declared.end.End.{End}
 use Rattle.thiele_cli.specs.declared.end.End.TheVariants as end
+use Rattle.thiele_cli.specs.declared.end.Extra.{Extra}
+use Rattle.thiele_cli.specs.declared.end.Extra.TheVariants as extra
 use Rattle.thiele_cli.specs.Cases.{Files, Case, IsCase}
-use Rattle.thiele_cli.specs.Replies.{end_of, report_of, Answers}
+use Rattle.thiele_cli.specs.Replies.{end_of, report_of, extra_of, Answers}
 
 -- the exit status of each end
 abbrev pub status_of : End → ℕ
@@ -17,6 +19,14 @@ status_of (end.Rule found) = 6
 status_of (end.NoPremium low) = 7
 status_of end.WriteFault = 8
 status_of end.Memory = 9
+status_of (end.Second cause) = 11
+status_of (end.Derived found) = 13
+status_of (end.Compare broken) = 16
+
+-- what is handed back beside the report is there
+abbrev pub IsExtra : Extra → Type 0
+IsExtra extra.Nothing = ⊥
+IsExtra (extra.Compare changes) = ⊤
 
 -- the ends of a run that has no answer or could not write it
 abbrev pub IsFault : End → Type 0
@@ -48,6 +58,12 @@ pub record LeadToReport (files : Files) (words : List (List ℕ)) : Type 0 where
   pub case : Case
   pub holds : IsCase files words case
   pub reports : (given : Answer) → Answers case given → IsSome (report_of given)
+
+-- they come to a case whose every answer has a result of its own kind
+pub record LeadToExtra (files : Files) (words : List (List ℕ)) : Type 0 where
+  pub case : Case
+  pub holds : IsCase files words case
+  pub has : (given : Answer) → Answers case given → IsExtra (extra_of given)
 
 -- the end comes only by a case with such an answer; and where the files are told and no fetch failed, a case that leads
 -- to it has no other end than want of memory and a fault of the sink

@@ -1,6 +1,8 @@
+pub mod AskedAnswers
 pub mod Cases
+pub mod Comparisons
 pub mod Ends
-pub mod FileAnswers
+pub mod Fetches
 pub mod MonthGrids
 pub mod Outcome
 pub mod Premiums

@@ -1,13 +1,16 @@
--- What the commands ask, and of which file or seed.
-use Rattle.std.specs.Prelude.{◌≡◌, ℕ, ◌<◌, List, ⊤}
+-- What the commands ask, and of which files or seed.
+use Rattle.std.specs.Prelude.{◌≡◌, ◌⊎◌, ℕ, ◌<◌, List, ⊤}
 use Rattle.command_words.specs.Readings.{Request, Check, Value, Reserves, Occupancy, Moments, Premium, Generate}
-use Rattle.command_words.specs.Readings.{AreReadAs}
+use Rattle.command_words.specs.Readings.{Compare, AreReadAs}
 use Rattle.thiele_cli.specs.declared.question.Question.{Question}
 use Rattle.thiele_cli.specs.declared.question.Question.TheVariants as question
+use Rattle.thiele_cli.specs.declared.pair_question.PairQuestion.{PairQuestion}
+use Rattle.thiele_cli.specs.declared.pair_question.PairQuestion.TheVariants as pair_question
 
--- what is asked: something of the file with this name, or the product file of a seed
+-- what is asked: something of the file with this name, something of two files, or the product file of a seed
 pub data Asked : Type 0 where
   OfFile : Question → List ℕ → Asked
+  OfFiles : PairQuestion → List ℕ → List ℕ → Asked
   OfSeed : ℕ → Asked
 
 -- what a request asks
@@ -19,6 +22,7 @@ asked_of (Occupancy file every) = OfFile (question.Occupancy every) file
 asked_of (Moments file every) = OfFile (question.Moments every) file
 asked_of (Premium file) = OfFile question.Premium file
 asked_of (Generate seed) = OfSeed seed
+asked_of (Compare first second every) = OfFiles (pair_question.Changes every) first second
 
 -- dates that are asked for lie some months apart
 abbrev pub HasDates : Question → Type 0
@@ -29,13 +33,19 @@ HasDates (question.Occupancy every) = 0 < every
 HasDates (question.Moments every) = 0 < every
 HasDates question.Premium = ⊤
 
+-- and so do those that are asked for of two products
+abbrev pub HasDatesOfTwo : PairQuestion → Type 0
+HasDatesOfTwo (pair_question.Changes every) = 0 < every
+
 -- some words are read as the request
 abbrev pub IsRead : Request → Type 0
 IsRead request = (words : List (List ℕ)) × AreReadAs words request
 
 -- something is asked of this file
 abbrev pub IsAskedOf : Asked → List ℕ → Type 0
-IsAskedOf asked file = (what : Question) × (asked ≡ OfFile what file)
+IsAskedOf (OfFile what name) file = file ≡ name
+IsAskedOf (OfFiles what first second) file = (file ≡ first) ⊎ (file ≡ second)
+IsAskedOf (OfSeed seed) file = ⊥
 
 -- the words ask something of this file
 abbrev pub AskAbout : List (List ℕ) → List ℕ → Type 0

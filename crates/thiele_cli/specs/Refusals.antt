@@ -5,24 +5,35 @@ use Rattle.frac_laws.specs.Rounding.{floor_of}
 use Rattle.rule_breaks.specs.declared.breaks.RuleBreak.{RuleBreak}
 use Rattle.thiele_cli.specs.declared.end.End.{End}
 use Rattle.thiele_cli.specs.declared.end.End.TheVariants as end
+use Rattle.thiele_cli.specs.declared.file_break.FileBreak.{FileBreak}
+use Rattle.thiele_cli.specs.declared.file_break.FileBreak.TheVariants as file
 use Rattle.thiele_cli.specs.declared.refusal.Refusal.{Refusal}
 use Rattle.thiele_cli.specs.declared.refusal.Refusal.TheVariants as refusal
+
+-- the end of a run whose first file is refused
+abbrev pub file_end : FileBreak → End
+file_end (file.TooLong seen) = end.TooLong seen
+file_end file.NotToml = end.NotToml
+file_end (file.Rule found) = end.Rule found
 
 -- the end of a run that is refused
 abbrev pub refused_end : Refusal → End
 refused_end refusal.Words = end.BadWords
-refused_end (refusal.Length seen) = end.TooLong seen
-refused_end refusal.Toml = end.NotToml
-refused_end (refusal.Rule found) = end.Rule found
+refused_end (refusal.First cause) = file_end cause
+refused_end (refusal.Second cause) = end.Second cause
 refused_end (refusal.Premium low) = end.NoPremium low
+refused_end (refusal.Derived found) = end.Derived found
+refused_end (refusal.Compare broken) = end.Compare broken
 
--- refused length SEEN
-abbrev pub length_line : ℕ → List ℕ
-length_line seen = codes "refused length " ++ decimal seen ++ codes "\n"
+-- rule K place P
+abbrev pub rule_words : RuleBreak → List ℕ
+rule_words found = codes "rule " ++ decimal found.rule ++ codes " place " ++ decimal found.place
 
--- refused rule K place P
-abbrev pub rule_line : RuleBreak → List ℕ
-rule_line found = codes "refused rule " ++ decimal found.rule ++ codes " place " ++ decimal found.place ++ codes "\n"
+-- length SEEN, or toml, or rule K place P
+abbrev pub file_words : FileBreak → List ℕ
+file_words (file.TooLong seen) = codes "length " ++ decimal seen
+file_words file.NotToml = codes "toml"
+file_words (file.Rule found) = rule_words found
 
 -- refused premium low X, where X is the lower end, in units of 2^-64, rounded down to millionths
 abbrev pub premium_line : ℤ → List ℕ
@@ -32,7 +43,8 @@ premium_line low =
 -- the line of a refusal
 abbrev pub line_of : Refusal → List ℕ
 line_of refusal.Words = codes "refused words\n"
-line_of (refusal.Length seen) = length_line seen
-line_of refusal.Toml = codes "refused toml\n"
-line_of (refusal.Rule found) = rule_line found
+line_of (refusal.First cause) = codes "refused " ++ file_words cause ++ codes "\n"
+line_of (refusal.Second cause) = codes "refused second " ++ file_words cause ++ codes "\n"
 line_of (refusal.Premium low) = premium_line low
+line_of (refusal.Derived found) = codes "refused derived " ++ rule_words found ++ codes "\n"
+line_of (refusal.Compare broken) = codes "refused compare part " ++ decimal broken.part ++ codes "\n"

@@ -1,8 +1,9 @@
 -- What each case is answered by, and how an answer ends, reports and reads.
-use Rattle.std.specs.Prelude.{◌≡◌, ◌⊎◌, ℕ, ◌+◌, ◌^◌, ◌≤◌, ℤ, unsigned_abs, List, Option, Some, None}
+use Rattle.std.specs.Prelude.{◌≡◌, ◌⊎◌, ℕ, ◌^◌, ◌≤◌, ℤ, unsigned_abs, List, Option, Some, None}
 use Rattle.std.specs.Prelude.{⊤, Vec}
 use Rattle.std.specs.declared.alloc.Global.{Global}
-use Rattle.named_numbers.specs.Numbers.{most_file_bytes, highest_degree}
+use Rattle.named_numbers.specs.Numbers.{highest_degree}
+use Rattle.basis_compare.specs.ChangesText.{HaveText, changes_text}
 use Rattle.model_specs.specs.Product.{Product}
 use Rattle.product_file.specs.Verdict.{ReadsAs, IsValid}
 use Rattle.report_columns.specs.Columns.{ColumnText}
@@ -16,8 +17,12 @@ use Rattle.workload_gen.specs.Laws.{generated_product}
 use Rattle.workload_gen.specs.Tree.{generated}
 use Rattle.thiele_cli.specs.declared.end.End.{End}
 use Rattle.thiele_cli.specs.declared.end.End.TheVariants as end
+use Rattle.thiele_cli.specs.declared.end.Extra.{Extra}
+use Rattle.thiele_cli.specs.declared.end.Extra.TheVariants as extra
 use Rattle.thiele_cli.specs.declared.question.Question.{Question}
 use Rattle.thiele_cli.specs.declared.question.Question.TheVariants as question
+use Rattle.thiele_cli.specs.declared.pair_question.PairQuestion.{PairQuestion}
+use Rattle.thiele_cli.specs.declared.pair_question.PairQuestion.TheVariants as pair_question
 use Rattle.thiele_cli.specs.declared.refusal.Refusal.{Refusal}
 use Rattle.thiele_cli.specs.declared.refusal.Refusal.TheVariants as refusal
 use Rattle.thiele_cli.specs.declared.answer.Answer.{Answer}
@@ -25,7 +30,8 @@ use Rattle.thiele_cli.specs.declared.answer.Answer.TheVariants as answer
 use Rattle.thiele_cli.specs.Refusals.{refused_end, line_of}
 use Rattle.thiele_cli.specs.Premiums.{HasClosePremium}
 use Rattle.thiele_cli.specs.MonthGrids.{IsReserveReport}
-use Rattle.thiele_cli.specs.Cases.{Case, NoReading, Generated, TooLong, NoToml, Broken, Answered}
+use Rattle.thiele_cli.specs.Comparisons.{AnswersComparison}
+use Rattle.thiele_cli.specs.Cases.{Case, NoReading, Generated, FirstRefused, SecondRefused, Answered, AnsweredOfTwo}
 
 -- the end of a run with this answer, once its text is written
 abbrev pub end_of : Answer → End
@@ -33,6 +39,7 @@ end_of (answer.Limits product) = end.Done
 end_of (answer.Report product report) = end.Done
 end_of (answer.Generated text) = end.Done
 end_of (answer.Refused why) = refused_end why
+end_of (answer.Changes old new changes) = end.Done
 
 -- the report of an answer that is one
 abbrev pub report_of : Answer → Option Report
@@ -40,6 +47,15 @@ report_of (answer.Limits product) = None
 report_of (answer.Report product report) = Some report
 report_of (answer.Generated text) = None
 report_of (answer.Refused why) = None
+report_of (answer.Changes old new changes) = None
+
+-- what it has beside a report
+abbrev pub extra_of : Answer → Extra
+extra_of (answer.Limits product) = extra.Nothing
+extra_of (answer.Report product report) = extra.Nothing
+extra_of (answer.Generated text) = extra.Nothing
+extra_of (answer.Refused why) = extra.Nothing
+extra_of (answer.Changes old new changes) = extra.Compare changes
 
 -- the text of an answer, with these columns behind a report
 abbrev pub text_of : Answer → List ColumnText → List ℕ
@@ -47,14 +63,16 @@ text_of (answer.Limits product) columns = check_text product
 text_of (answer.Report product report) columns = report_text product report columns
 text_of (answer.Generated text) columns = text.items
 text_of (answer.Refused why) columns = line_of why
+text_of (answer.Changes old new changes) columns = changes_text old new changes
 
 -- a refusal has a line: the number that it tells is not too large for it
 abbrev pub HasLine : Refusal → Type 0
 HasLine refusal.Words = ⊤
-HasLine (refusal.Length seen) = ⊤
-HasLine refusal.Toml = ⊤
-HasLine (refusal.Rule found) = ⊤
+HasLine (refusal.First cause) = ⊤
+HasLine (refusal.Second cause) = ⊤
 HasLine (refusal.Premium low) = unsigned_abs low ≤ 2 ^ 100
+HasLine (refusal.Derived found) = ⊤
+HasLine (refusal.Compare broken) = ⊤
 
 -- the answer has a text
 abbrev pub IsPrintable : Answer → Type 0
@@ -62,6 +80,7 @@ IsPrintable (answer.Limits product) = ⊤
 IsPrintable (answer.Report product report) = HasText product report
 IsPrintable (answer.Generated text) = ⊤
 IsPrintable (answer.Refused why) = HasLine why
+IsPrintable (answer.Changes old new changes) = HaveText old changes
 
 -- the answer is a report about the product, and it is right in this sense
 abbrev pub Reports : Product → (Report → Type 0) → Answer → Type 0
@@ -92,6 +111,10 @@ AnswersQuestion (question.Moments every) product given = Reports product (IsRepo
 AnswersQuestion question.Premium product given =
     Reports product (IsPremiumReport product) given ⊎ IsRefusedPremium product given
 
+-- the answer to a question about two products that break no rule
+abbrev pub AnswersOfTwo : PairQuestion → (old new : Product) → Answer → Type 0
+AnswersOfTwo (pair_question.Changes every) old new given = AnswersComparison old new every given
+
 -- the answer is a text that reads as the tree of the seed, and breaks no rule
 pub record IsGenerated (seed : ℕ) (given : Answer) : Type 0 where
   pub text : Vec ℕ Global
@@ -103,8 +126,7 @@ pub record IsGenerated (seed : ℕ) (given : Answer) : Type 0 where
 abbrev pub Answers : Case → Answer → Type 0
 Answers NoReading given = given ≡ answer.Refused refusal.Words
 Answers (Generated seed) given = IsGenerated seed given
-Answers TooLong given = given ≡ answer.Refused (refusal.Length (most_file_bytes + 1))
-Answers NoToml given = given ≡ answer.Refused refusal.Toml
-Answers (Broken found) given =
-    given ≡ answer.Refused (refusal.Rule (record { rule = found.rule; place = found.place }))
+Answers (FirstRefused cause) given = given ≡ answer.Refused (refusal.First cause)
+Answers (SecondRefused cause) given = given ≡ answer.Refused (refusal.Second cause)
 Answers (Answered asked product) given = AnswersQuestion asked product given
+Answers (AnsweredOfTwo asked old new) given = AnswersOfTwo asked old new given

@@ -1,12 +1,21 @@
--- The verdict on the bytes of a file, as the program keeps it.
+-- The verdict on a product file, as the program keeps it.
 use Rattle.std.specs.Prelude.{ℕ, List}
 use Rattle.rule_breaks.specs.Breaks.{break_of}
 use Rattle.product_file.specs.Verdict.{IsNotToml, IsValid, Breaks}
+use Rattle.thiele_cli.specs.declared.file_break.FileBreak.TheVariants as file
 use Rattle.thiele_cli.specs.declared.verdict.Verdict.{Verdict}
 use Rattle.thiele_cli.specs.declared.verdict.Verdict.TheVariants as verdict
+use Rattle.thiele_cli.specs.Cases.{Files, HasFault, HasProduct}
 
--- the bytes have this product, which breaks no rule; or they are no TOML; or they break this rule first
+-- bytes that are not too many have this product, which breaks no rule; or they are no TOML; or they break this rule
+-- first
 abbrev pub IsVerdictOn : List ℕ → Verdict → Type 0
 IsVerdictOn bytes (verdict.Admitted product) = IsValid bytes product
-IsVerdictOn bytes verdict.NotToml = IsNotToml bytes
-IsVerdictOn bytes (verdict.Rule found) = Breaks bytes (break_of found)
+IsVerdictOn bytes (verdict.Refused (file.TooLong seen)) = ⊥
+IsVerdictOn bytes (verdict.Refused file.NotToml) = IsNotToml bytes
+IsVerdictOn bytes (verdict.Refused (file.Rule found)) = Breaks bytes (break_of found)
+
+-- the file of that name has this product, or it is refused by this cause
+abbrev pub IsVerdictOnFile : Files → List ℕ → Verdict → Type 0
+IsVerdictOnFile files name (verdict.Admitted product) = HasProduct files name product
+IsVerdictOnFile files name (verdict.Refused cause) = HasFault files name cause

@@ -1,10 +1,11 @@
 // What a run answers, before it is text.
 ghost use Rattle.std.specs.Prelude.{◌≡◌, IfOk};
 ghost use Rattle.report_columns.specs.Columns.{columns_of};
-ghost use Rattle.thiele_cli.specs.Replies.{end_of, report_of, text_of, IsPrintable};
+ghost use Rattle.thiele_cli.specs.Replies.{end_of, report_of, extra_of, text_of, IsPrintable};
 
-use crate::end::End;
+use crate::end::{End, Extra};
 use crate::refusal::Refusal;
+use basis_compare::{Changes, changes_bytes};
 use rate_bounds::Admitted;
 use report_columns::Column;
 use reserve_report::{Report, check_bytes, report_bytes};
@@ -21,6 +22,8 @@ pub enum Answer {
     Generated(Vec<u8>),
     /// No answer, but a line that says why.
     Refused(Refusal),
+    /// The changes from the basis of one product to that of another.
+    Changes(Admitted, Admitted, Changes),
 }
 
 impl Answer {
@@ -33,6 +36,7 @@ impl Answer {
             Answer::Report(..) => End::Done,
             Answer::Generated(_) => End::Done,
             Answer::Refused(why) => why.end(),
+            Answer::Changes(..) => End::Done,
         }
     }
 
@@ -52,18 +56,23 @@ impl Answer {
             }
             Answer::Generated(text) => text.clone(),
             Answer::Refused(why) => why.line(alloc),
+            Answer::Changes(old, new, changes) => {
+                changes_bytes(alloc, old.product(), new.product(), changes)
+            }
         }
     }
 
-    /// The report, where the answer is one.
-    pub fn into_report(self) -> Option<Report>
-        ensures { result ≡ report_of self }
+    /// The report, where the answer is one, and what else it has.
+    pub fn into_results(self) -> (Option<Report>, Extra)
+        ensures report { result.0 ≡ report_of self }
+        ensures extra { result.1 ≡ extra_of self }
     {
         match self {
-            Answer::Limits(_) => None,
-            Answer::Report(_, report) => Some(report),
-            Answer::Generated(_) => None,
-            Answer::Refused(_) => None,
+            Answer::Limits(_) => (None, Extra::Nothing),
+            Answer::Report(_, report) => (Some(report), Extra::Nothing),
+            Answer::Generated(_) => (None, Extra::Nothing),
+            Answer::Refused(_) => (None, Extra::Nothing),
+            Answer::Changes(_, _, changes) => (None, Extra::Compare(changes)),
         }
     }
 }

@@ -1,35 +1,23 @@
 // What a command is answered by, before the sink is reached.
 ghost use Rattle.std.specs.Prelude.{◌≡◌, ℕ, ◌++◌, List, [], ◌∷◌, IfOk, OnOk, IsErrOf};
 ghost use Rattle.command_words.specs.Commands.{request_of};
-ghost use Rattle.thiele_cli.specs.Questions.{OfFile, asked_of, HasDates, IsAskedOf, IsRead};
+ghost use Rattle.thiele_cli.specs.Questions.{OfFile, OfFiles, asked_of, HasDates, HasDatesOfTwo, IsAskedOf, IsRead};
 ghost use Rattle.thiele_cli.specs.Replies.{IsGenerated, IsPrintable};
-ghost use Rattle.thiele_cli.specs.FileAnswers.{AnswersFile, AnswersAsked};
+ghost use Rattle.thiele_cli.specs.AskedAnswers.{AnswersAsked};
 
 use crate::answer::Answer;
 use crate::fault::Fault;
+use crate::fetching::file_verdict;
+use crate::pair_question::{PairQuestion, pair_answer};
 use crate::question::{Question, product_answer};
 use crate::refusal::Refusal;
-use crate::verdict::{Verdict, verdict_on};
+use crate::verdict::Verdict;
 use command_words::Command;
-use io_ports::{FetchError, Shelf};
-use named_numbers::MOST_FILE_BYTES;
+use io_ports::Shelf;
 use std::alloc::{AllocError, Global};
 use workload_gen::make;
 
-/// The answer to a question about the bytes of a file.
-fn file_answer(alloc: Global, question: Question, bytes: &[u8]) -> Result<Answer, AllocError>
-    requires { HasDates question }
-    ensures answer { IfOk result (AnswersFile question bytes.now) }
-    ensures printable { IfOk result IsPrintable }
-{
-    match verdict_on(alloc, bytes)? {
-        Verdict::Admitted(admitted) => product_answer(alloc, question, admitted),
-        Verdict::NotToml => Ok(Answer::Refused(Refusal::Toml)),
-        Verdict::Rule(found) => Ok(Answer::Refused(Refusal::Rule(found))),
-    }
-}
-
-/// The answer to a question about a file, once it is fetched.
+/// The answer to a question about a file.
 fn named_answer<H: Shelf>(
     alloc: Global,
     question: Question,
@@ -40,15 +28,42 @@ fn named_answer<H: Shelf>(
     ensures answer { IfOk result (AnswersAsked (H.files shelf.old) (OfFile question name.now)) }
     ensures printable { IfOk result IsPrintable }
     ensures fetched { OnOk result (H.failed shelf.new ≡ H.failed shelf.old) }
-    ensures not_fetched { IsErrOf result Fault.Fetch → H.failed shelf.new ≡ H.failed shelf.old ++ name.now ∷ [] }
+    ensures not_fetched { IsErrOf result Fault.Fetch → (file : List ℕ)
+        × IsAskedOf (OfFile question name.now) file × (H.failed shelf.new ≡ H.failed shelf.old ++ file ∷ []) }
     ensures memory { IsErrOf result Fault.Memory → H.failed shelf.new ≡ H.failed shelf.old }
     ensures files { H.files shelf.new ≡ H.files shelf.old }
 {
-    match shelf.fetch(alloc, name, MOST_FILE_BYTES) {
-        Ok(bytes) => Ok(file_answer(alloc, question, &bytes)?),
-        Err(FetchError::TooLong(seen)) => Ok(Answer::Refused(Refusal::Length { seen })),
-        Err(FetchError::Failed) => Err(Fault::Fetch),
-        Err(FetchError::Memory) => Err(Fault::Memory),
+    match file_verdict(alloc, name, shelf)? {
+        Verdict::Admitted(product) => Ok(product_answer(alloc, question, product)?),
+        Verdict::Refused(cause) => Ok(Answer::Refused(Refusal::First(cause))),
+    }
+}
+
+/// The answer to a question about two files. The second is fetched only where the first has a product.
+fn two_named_answer<H: Shelf>(
+    alloc: Global,
+    question: PairQuestion,
+    first: &str,
+    second: &str,
+    shelf: &mut H,
+) -> Result<Answer, Fault>
+    requires { HasDatesOfTwo question }
+    ensures answer { IfOk result (AnswersAsked (H.files shelf.old) (OfFiles question first.now second.now)) }
+    ensures printable { IfOk result IsPrintable }
+    ensures fetched { OnOk result (H.failed shelf.new ≡ H.failed shelf.old) }
+    ensures not_fetched { IsErrOf result Fault.Fetch → (file : List ℕ)
+        × IsAskedOf (OfFiles question first.now second.now) file
+        × (H.failed shelf.new ≡ H.failed shelf.old ++ file ∷ []) }
+    ensures memory { IsErrOf result Fault.Memory → H.failed shelf.new ≡ H.failed shelf.old }
+    ensures files { H.files shelf.new ≡ H.files shelf.old }
+{
+    let old = match file_verdict(alloc, first, shelf)? {
+        Verdict::Admitted(product) => product,
+        Verdict::Refused(cause) => return Ok(Answer::Refused(Refusal::First(cause))),
+    };
+    match file_verdict(alloc, second, shelf)? {
+        Verdict::Admitted(new) => Ok(pair_answer(alloc, question, old, new)?),
+        Verdict::Refused(cause) => Ok(Answer::Refused(Refusal::Second(cause))),
     }
 }
 
@@ -90,5 +105,8 @@ pub fn command_answer<H: Shelf>(
         }
         Command::Premium(name) => named_answer(alloc, Question::Premium, name, shelf),
         Command::Generate(seed) => Ok(seed_answer(alloc, seed)?),
+        Command::Compare(first, second, every) => {
+            two_named_answer(alloc, PairQuestion::Changes(every), first, second, shelf)
+        }
     }
 }

@@ -2,6 +2,8 @@
 ghost use Rattle.std.specs.Prelude.{◌≡◌};
 ghost use Rattle.thiele_cli.specs.Ends.{status_of};
 
+use crate::file_break::FileBreak;
+use basis_compare::{Changes, CompareBreak};
 use reserve_report::Report;
 use rule_breaks::RuleBreak;
 
@@ -26,6 +28,12 @@ pub enum End {
     WriteFault,
     /// Memory was refused.
     Memory,
+    /// The second file is refused by this cause.
+    Second(FileBreak),
+    /// The product that is made of both files breaks this rule first.
+    Derived(RuleBreak),
+    /// The two bases first differ in this part.
+    Compare(CompareBreak),
 }
 
 impl End {
@@ -43,29 +51,44 @@ impl End {
             End::NoPremium { .. } => 7,
             End::WriteFault => 8,
             End::Memory => 9,
+            End::Second(_) => 11,
+            End::Derived(_) => 13,
+            End::Compare(_) => 16,
         }
     }
 }
 
-/// What a run answers: its end with its exit status, and the report where one was to be written.
+/// What was to be written, where it is no report.
+#[derive(Drop)]
+pub enum Extra {
+    /// A report, a text without numbers, or nothing.
+    Nothing,
+    /// The changes between two bases, by `compare`.
+    Compare(Changes),
+}
+
+/// What a run answers: its end with its exit status, and the report where one was to be written, or what else was.
 #[derive(Drop)]
 pub struct Finish {
     pub status: u8,
     pub end: End,
     pub report: Option<Report>,
+    pub extra: Extra,
 }
 
 impl Finish {
     /// The end with its status.
-    pub fn of(end: End, report: Option<Report>) -> Finish
+    pub fn of(end: End, report: Option<Report>, extra: Extra) -> Finish
         ensures status { result.status ≡ status_of end }
         ensures end { result.end ≡ end }
         ensures report { result.report ≡ report }
+        ensures extra { result.extra ≡ extra }
     {
         Finish {
             status: end.status(),
             end,
             report,
+            extra,
         }
     }
 }

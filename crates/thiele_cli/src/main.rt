@@ -3,8 +3,12 @@
 
 mod answer;
 mod command_answer;
+mod comparison;
 mod end;
 mod fault;
+mod fetching;
+mod file_break;
+mod pair_question;
 mod pieces;
 mod question;
 mod refusal;

@@ -1,9 +1,11 @@
 // Why there is no answer, and the line that says so.
-ghost use Rattle.std.specs.Prelude.{◌≡◌, ◌^◌, ◌≤◌, unsigned_abs, IfOk};
-ghost use Rattle.thiele_cli.specs.Refusals.{refused_end, length_line, rule_line, premium_line, line_of};
+ghost use Rattle.std.specs.Prelude.{◌≡◌, ◌^◌, ◌≤◌, ◌++◌, unsigned_abs, codes, decimal, IfOk};
+ghost use Rattle.thiele_cli.specs.Refusals.{refused_end, rule_words, file_words, premium_line, line_of};
 ghost use Rattle.thiele_cli.specs.Replies.{HasLine};
 
 use crate::end::End;
+use crate::file_break::{FileBreak, push_rule};
+use basis_compare::CompareBreak;
 use decimal_out::{push_millionths, push_whole};
 use fixed_num::scale_floor;
 use rule_breaks::RuleBreak;
@@ -14,34 +16,44 @@ use std::alloc::{AllocError, Global};
 pub enum Refusal {
     /// The words have no reading.
     Words,
-    /// The file has more than 1,048,576 bytes, of which this many were taken.
-    Length { seen: u64 },
-    /// The file is no TOML text.
-    Toml,
-    /// The file breaks this rule first, at its least place.
-    Rule(RuleBreak),
+    /// The file is refused, or the first one where the words name two.
+    First(FileBreak),
+    /// The second file is refused.
+    Second(FileBreak),
     /// The value of the premium pattern is too small: its interval begins here, in units of 2^-64.
     Premium { low: i128 },
+    /// The product that is made of both files breaks this rule first.
+    Derived(RuleBreak),
+    /// The two bases first differ in this part.
+    Compare(CompareBreak),
 }
 
-/// The line that refuses a file of which this many bytes were taken.
-fn length_text(alloc: Global, seen: u64) -> Result<Vec<u8>, AllocError>
-    ensures { IfOk result (λ text. text.items ≡ length_line seen) }
+/// The line that refuses a file, with these words before the cause.
+fn file_text(alloc: Global, head: &[u8], cause: FileBreak) -> Result<Vec<u8>, AllocError>
+    ensures { IfOk result (λ text. text.items ≡ head.now ++ file_words cause ++ codes "\n") }
 {
-    let mut text = b"refused length ".to_vec(alloc)?;
-    push_whole(&mut text, seen)?;
+    let mut text = head.to_vec(alloc)?;
+    cause.push_words(&mut text)?;
     text.push(b'\n')?;
     Ok(text)
 }
 
-/// The line that refuses a file by its first broken rule.
-fn rule_text(alloc: Global, found: RuleBreak) -> Result<Vec<u8>, AllocError>
-    ensures { IfOk result (λ text. text.items ≡ rule_line found) }
+/// The line that refuses the product that is made of two files.
+fn derived_text(alloc: Global, found: RuleBreak) -> Result<Vec<u8>, AllocError>
+    ensures { IfOk result (λ text. text.items ≡ codes "refused derived " ++ rule_words found ++ codes "\n") }
 {
-    let mut text = b"refused rule ".to_vec(alloc)?;
-    push_whole(&mut text, found.rule)?;
-    text.extend_from_slice(b" place ")?;
-    push_whole(&mut text, found.place)?;
+    let mut text = b"refused derived ".to_vec(alloc)?;
+    push_rule(&mut text, found)?;
+    text.push(b'\n')?;
+    Ok(text)
+}
+
+/// The line that refuses something by the first part that is broken, with these words before the part.
+fn part_text(alloc: Global, head: &[u8], part: u8) -> Result<Vec<u8>, AllocError>
+    ensures { IfOk result (λ text. text.items ≡ head.now ++ decimal part ++ codes "\n") }
+{
+    let mut text = head.to_vec(alloc)?;
+    push_whole(&mut text, part)?;
     text.push(b'\n')?;
     Ok(text)
 }
@@ -64,10 +76,13 @@ impl Refusal {
     {
         match self {
             Refusal::Words => End::BadWords,
-            Refusal::Length { seen } => End::TooLong { seen },
-            Refusal::Toml => End::NotToml,
-            Refusal::Rule(found) => End::Rule(found),
+            Refusal::First(FileBreak::TooLong { seen }) => End::TooLong { seen },
+            Refusal::First(FileBreak::NotToml) => End::NotToml,
+            Refusal::First(FileBreak::Rule(found)) => End::Rule(found),
+            Refusal::Second(cause) => End::Second(cause),
             Refusal::Premium { low } => End::NoPremium { low },
+            Refusal::Derived(found) => End::Derived(found),
+            Refusal::Compare(broken) => End::Compare(broken),
         }
     }
 
@@ -78,10 +93,11 @@ impl Refusal {
     {
         match self {
             Refusal::Words => b"refused words\n".to_vec(alloc),
-            Refusal::Length { seen } => length_text(alloc, seen),
-            Refusal::Toml => b"refused toml\n".to_vec(alloc),
-            Refusal::Rule(found) => rule_text(alloc, found),
+            Refusal::First(cause) => file_text(alloc, b"refused ", cause),
+            Refusal::Second(cause) => file_text(alloc, b"refused second ", cause),
             Refusal::Premium { low } => premium_text(alloc, low),
+            Refusal::Derived(found) => derived_text(alloc, found),
+            Refusal::Compare(broken) => part_text(alloc, b"refused compare part ", broken.part),
         }
     }
 }

@@ -1,4 +1,5 @@
 mod columns;
+mod comparisons;
 mod damages;
 mod ends;
 mod reports;
@@ -83,6 +84,25 @@ state = "active"
 steps = [{ from = 0, amount = 1200 }]
 "#;
 
+/// The same annuity to a life with an intensity of death of 5 %.
+const FRAIL: &[u8] = br#"format = 1
+name = "frail"
+months = 120
+den = 100
+start = "active"
+states = ["active", "dead"]
+interest = [{ from = 0, c = [3] }]
+
+[[transition]]
+from = "active"
+to = "dead"
+rate = [{ from = 0, c = [5] }]
+
+[[sojourn]]
+state = "active"
+steps = [{ from = 0, amount = 1200 }]
+"#;
+
 /// A sum of 100,000 at the death of that life, and a premium until the term.
 const TERM: &[u8] = br#"format = 1
 name = "term"
@@ -124,6 +144,7 @@ fn shelf(alloc: Global, failing: &[u64]) -> Result<MemoryShelf, AllocError> {
         ("interest", WITH_INTEREST),
         ("lump", LUMP),
         ("life", LIFE),
+        ("frail", FRAIL),
         ("term", TERM),
         ("sure", SURE),
         ("cut", &FLAT[..22]),

@@ -2,17 +2,16 @@
 ghost use Rattle.std.specs.Prelude.{IfOk};
 ghost use Rattle.thiele_cli.specs.Verdicts.{IsVerdictOn};
 
+use crate::file_break::FileBreak;
 use product_reader::{ReadError, read_product};
 use rate_bounds::{AdmitError, Admitted, admit};
-use rule_breaks::RuleBreak;
 use std::alloc::{AllocError, Global};
 
-/// What the bytes of a file are: a product that is admitted, no TOML text, or a file that breaks this rule first.
+/// What a product file is: a product that is admitted, or refused.
 #[derive(Drop)]
 pub enum Verdict {
     Admitted(Admitted),
-    NotToml,
-    Rule(RuleBreak),
+    Refused(FileBreak),
 }
 
 /// Reads the product of a file and admits it by all rules.
@@ -21,13 +20,13 @@ pub fn verdict_on(alloc: Global, bytes: &[u8]) -> Result<Verdict, AllocError>
 {
     let product = match read_product(alloc, bytes) {
         Ok(product) => product,
-        Err(ReadError::NotToml) => return Ok(Verdict::NotToml),
-        Err(ReadError::Rule(found)) => return Ok(Verdict::Rule(found)),
+        Err(ReadError::NotToml) => return Ok(Verdict::Refused(FileBreak::NotToml)),
+        Err(ReadError::Rule(found)) => return Ok(Verdict::Refused(FileBreak::Rule(found))),
         Err(ReadError::Memory) => return Err(AllocError),
     };
     match admit(alloc, product) {
         Ok(admitted) => Ok(Verdict::Admitted(admitted)),
-        Err(AdmitError::Rule(found)) => Ok(Verdict::Rule(found)),
+        Err(AdmitError::Rule(found)) => Ok(Verdict::Refused(FileBreak::Rule(found))),
         Err(AdmitError::Memory) => Err(AllocError),
     }
 }

@@ -35,14 +35,33 @@ fn a_damaged_file_is_refused_by_its_rule(rt: HostRuntime) -> Result<(), Fail> {
     let nested = "x = [[[[[[[[[[[[[[[[[[[[[[[[[[[[[[[[[[[[[[[[[[[[[[[[[[[[[[[[[[[[\
                   ]]]]]]]]]]]]]]]]]]]]]]]]]]]]]]]]]]]]]]]]]]]]]]]]]]]]]]]]]]]]\n[[sojourn]]";
     for (own, other, line) in [
-        ("months = 12", "months = 9223372036854775807", "refused rule 4 place 0\n"),
+        (
+            "months = 12",
+            "months = 9223372036854775807",
+            "refused rule 4 place 0\n",
+        ),
         ("from = 0, c", "from = -1, c", "refused rule 8 place 0\n"),
-        ("c = [0]", "c = [-9223372036854775808]", "refused rule 15 place 0\n"),
-        ("amount = 384", "amount = -9223372036854775808", "refused rule 11 place 0\n"),
-        ("[[sojourn]]", "x = 1\n[[sojourn]]", "refused rule 1 place 11\n"),
+        (
+            "c = [0]",
+            "c = [-9223372036854775808]",
+            "refused rule 15 place 0\n",
+        ),
+        (
+            "amount = 384",
+            "amount = -9223372036854775808",
+            "refused rule 11 place 0\n",
+        ),
+        (
+            "[[sojourn]]",
+            "x = 1\n[[sojourn]]",
+            "refused rule 1 place 11\n",
+        ),
         ("[[sojourn]]", nested, "refused rule 1 place 11\n"),
     ] {
-        assert!(rt; said_of(alloc, flat_but(alloc, own, other)?)? == line.as_bytes(), "{other}");
+        assert!(rt;
+            said_of(alloc, flat_but(alloc, own, other)?)? == line.as_bytes(),
+            "{other}"
+        );
     }
     Ok(())
 }
@@ -64,7 +83,9 @@ fn a_file_is_cut_after_each_of_its_first_bytes(rt: HostRuntime) -> Result<(), Fa
         (171, 172, "refused rule 7 place 0\n"),
     ];
     for count in 1..201 {
-        let told = lines.iter().find(|(first, last, _)| *first <= count && count <= *last);
+        let told = lines
+            .iter()
+            .find(|(first, last, _)| *first <= count && count <= *last);
         let wanted = told.map_or("refused toml\n", |(_, _, line)| *line);
         let found = said_of(alloc, TERM[..count].to_vec(alloc)?)?;
         assert!(rt; found.starts_with(wanted.as_bytes()), "{count} bytes");

@@ -1,8 +1,18 @@
-use Rattle.thiele_cli.proofs.Answered.{file_answers}
+use Rattle.std.proofs.Common.{refl}
+use Rattle.thiele_cli.proofs.Answered.{product_of, fault_of, refused_file, answered_file}
 use Rattle.thiele_cli.proofs.command_answer.named_answer.Goals as goal
 
-pub returns-in_ok-file_answer-in-Ok-clause-answer : goal.returns-in_ok-file_answer-in-Ok-clause-answer
-returns-in_ok-file_answer-in-Ok-clause-answer g c =
-    file_answers (g.H.Shelf.files c.args.shelf.now) c.args.question c.args.name.now c.in-Ok.bytes
-    c.in_ok-file_answer-in-Ok.field-0 c.in-Ok.ensures.told (rw (← c.in-Ok.bytes.ok.0) c.in-Ok.ensures.bound)
-    (rw (← c.deref.ensures.value) c.in_ok-file_answer-in-Ok.ensures.answer)
+pub returns-in_ok-product_answer-in-Admitted-clause-answer : goal.returns-in_ok-product_answer-in-Admitted-clause-answer
+returns-in_ok-product_answer-in-Admitted-clause-answer g c =
+    let files = g.H.Shelf.files c.args.shelf.now in
+    answered_file files c.args.question c.args.name.now c.in-Admitted.product
+    c.in_ok-product_answer-in-Admitted.field-0
+    (product_of files files c.args.name.now c.in_ok-product.field-0 c.in-Admitted.product refl c.in-Admitted.is
+    c.in_ok-product.ensures.verdict) c.in_ok-product_answer-in-Admitted.ensures.answer
+
+pub returns-in-Refused-clause-answer : goal.returns-in-Refused-clause-answer
+returns-in-Refused-clause-answer g c =
+    let files = g.H.Shelf.files c.args.shelf.now in
+    refused_file files c.args.question c.args.name.now c.in-Refused.cause
+    (fault_of files files c.args.name.now c.in_ok-product.field-0 c.in-Refused.cause refl c.in-Refused.is
+    c.in_ok-product.ensures.verdict)

@@ -8,7 +8,7 @@ use Rattle.thiele_cli.specs.declared.refusal.Refusal.TheVariants as refusal
 use Rattle.thiele_cli.specs.Outcome.{Delivers}
 use Rattle.thiele_cli.specs.Replies.{end_of}
 use Rattle.thiele_cli.proofs.Answered.{request_answers, no_reading_answers}
-use Rattle.thiele_cli.proofs.Causes.{comes_by, reported, completes}
+use Rattle.thiele_cli.proofs.Causes.{comes_by, reported, has_extra, completes}
 use Rattle.thiele_cli.proofs.Seeds.{seed_ends, no_file_of_seed}
 use Rattle.thiele_cli.proofs.run.run.Goals as goal
 
@@ -17,6 +17,7 @@ returns-in_default-clause-written g c = inr (
   answer.Refused refusal.Words,
   no_reading_answers _ _ c.in_default.ensures.none,
   c.deliver.ensures.report,
+  c.deliver.ensures.extra,
   c.deliver.ensures.delivers,
 )
 
@@ -29,6 +30,11 @@ pub returns-in_default-clause-reported : goal.returns-in_default-clause-reported
 returns-in_default-clause-reported g c cause told fault =
     reported _ _ (answer.Refused refusal.Words) c.deliver.result.report
     (no_reading_answers _ _ c.in_default.ensures.none) c.deliver.ensures.report cause told
+
+pub returns-in_default-clause-extra : goal.returns-in_default-clause-extra
+returns-in_default-clause-extra g c cause told fault =
+    has_extra _ _ (answer.Refused refusal.Words) c.deliver.result.extra
+    (no_reading_answers _ _ c.in_default.ensures.none) c.deliver.ensures.extra cause told
 
 pub returns-in_default-clause-complete : goal.returns-in_default-clause-complete
 returns-in_default-clause-complete g c own cause told same calm =
@@ -43,6 +49,7 @@ returns-in-Err-Fetch-clause-written g c =
     inl (
       inl (c.of.ensures.end, file.0, (request_of c.in-Some.command, c.in-Some.ensures.some, file.1)),
       c.of.ensures.report,
+      c.of.ensures.extra,
       Keeps-refl (g.K.Sink.written c.args.sink.now),
     )
 
@@ -58,6 +65,12 @@ returns-in-Ok-text-clause-reported g c cause told fault =
     (request_answers _ _ (request_of c.in-Some.command) c.in-Ok.answer c.in-Some.ensures.some c.in-Ok.ensures.answer)
     c.deliver-in-Ok-text.ensures.report cause told
 
+pub returns-in-Ok-text-clause-extra : goal.returns-in-Ok-text-clause-extra
+returns-in-Ok-text-clause-extra g c cause told fault =
+    has_extra _ _ c.in-Ok.answer c.deliver-in-Ok-text.result.extra
+    (request_answers _ _ (request_of c.in-Some.command) c.in-Ok.answer c.in-Some.ensures.some c.in-Ok.ensures.answer)
+    c.deliver-in-Ok-text.ensures.extra cause told
+
 pub returns-in-Ok-text-clause-complete : goal.returns-in-Ok-text-clause-complete
 returns-in-Ok-text-clause-complete g c own cause told same calm =
     completes _ _ c.in-Ok.answer c.deliver-in-Ok-text.result.end own
@@ -70,14 +83,19 @@ returns-in-Ok-text-clause-written g c = inr (
   c.in-Ok.answer,
   request_answers _ _ (request_of c.in-Some.command) c.in-Ok.answer c.in-Some.ensures.some c.in-Ok.ensures.answer,
   c.deliver-in-Ok-text.ensures.report,
+  c.deliver-in-Ok-text.ensures.extra,
   subst (λ text. Delivers text (end_of c.in-Ok.answer) c.deliver-in-Ok-text.result.end
       (g.K.Sink.written c.args.sink.now) (g.K.Sink.written c.deliver-in-Ok-text.new.sink))
       (c.deref.ensures.value ∙ c.in-Ok-text.ensures) c.deliver-in-Ok-text.ensures.delivers,
 )
 
 pub returns-clause-written : goal.returns-clause-written
-returns-clause-written g c =
-    inl (inr c.of-in-Err.ensures.end, c.of-in-Err.ensures.report, Keeps-refl (g.K.Sink.written c.args.sink.now))
+returns-clause-written g c = inl (
+  inr c.of-in-Err.ensures.end,
+  c.of-in-Err.ensures.report,
+  c.of-in-Err.ensures.extra,
+  Keeps-refl (g.K.Sink.written c.args.sink.now),
+)
 
 pub returns-in_default-clause-generated : goal.returns-in_default-clause-generated
 returns-in_default-clause-generated g c seed read = absurd (c.in_default.ensures.none (Generate seed, read))

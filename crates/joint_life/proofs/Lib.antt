@@ -1,0 +1,9 @@
+pub mod DistinctLists
+pub mod PairNames
+pub mod JointParts
+pub mod KeptPieces
+pub mod MoveLists
+pub mod PairIndices
+pub mod Records
+pub mod ShorterCurves
+pub mod Transitions

@@ -1,0 +1,5 @@
+pub mod Breaks
+pub mod Joining
+pub mod JointRecord
+pub mod Laws
+pub mod Moves

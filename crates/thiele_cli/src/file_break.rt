@@ -1,0 +1,46 @@
+// Why a product file is refused.
+ghost use Rattle.std.specs.Prelude.{◌≡◌, ◌++◌, OnOk};
+ghost use Rattle.thiele_cli.specs.Refusals.{rule_words, file_words};
+
+use decimal_out::push_whole;
+use rule_breaks::RuleBreak;
+use std::alloc::AllocError;
+
+/// Why a product file is refused.
+#[derive(Clone, Copy, Debug, PartialEq, Eq)]
+pub enum FileBreak {
+    /// It has more than 1,048,576 bytes, of which this many were taken.
+    TooLong { seen: u64 },
+    /// It is no TOML text.
+    NotToml,
+    /// It breaks this rule first, at its least place.
+    Rule(RuleBreak),
+}
+
+/// Appends the words that tell a broken rule.
+pub fn push_rule(out: &mut Vec<u8>, found: RuleBreak) -> Result<(), AllocError>
+    ensures { OnOk result (out.new.items ≡ out.old.items ++ rule_words found) }
+{
+    out.extend_from_slice(b"rule ")?;
+    push_whole(out, found.rule)?;
+    out.extend_from_slice(b" place ")?;
+    push_whole(out, found.place)?;
+    Ok(())
+}
+
+impl FileBreak {
+    /// Appends the words that tell it.
+    pub fn push_words(self, out: &mut Vec<u8>) -> Result<(), AllocError>
+        ensures { OnOk result (out.new.items ≡ out.old.items ++ file_words self) }
+    {
+        match self {
+            FileBreak::TooLong { seen } => {
+                out.extend_from_slice(b"length ")?;
+                push_whole(out, seen)?;
+            }
+            FileBreak::NotToml => out.extend_from_slice(b"toml")?,
+            FileBreak::Rule(found) => push_rule(out, found)?,
+        }
+        Ok(())
+    }
+}
