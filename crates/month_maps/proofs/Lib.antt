@@ -3,5 +3,6 @@ pub mod Columns
 pub mod MadeCells
 pub mod MadeMaps
 pub mod RowProducts
+pub mod SampleCell
 pub mod Starts
 pub mod WrittenRows

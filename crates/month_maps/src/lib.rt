@@ -5,5 +5,7 @@ mod applying;
 mod map;
 mod squaring;
 mod starting;
+#[cfg(test)]
+mod tests;
 
 pub use map::MonthMap;
