@@ -9,7 +9,7 @@ use Rattle.fixed_interval.specs.declared.printed.Printed.{Printed}
 use Rattle.fixed_interval.specs.declared.tables.Table.{Table}
 use Rattle.fixed_interval.specs.Tables.{AreEndsFor, ends_at}
 use Rattle.model_specs.specs.Product.{Product}
-use Rattle.model_laws.proofs.ListsByPlace.{at-list_of, length-list_of}
+use Rattle.whole_laws.proofs.ListsByPlace.{at-list_of, length-list_of}
 use Rattle.state_graph.specs.StateGraphs.{texts_of}
 use Rattle.claim_audit.specs.Audits.{reserve_at, tolerance_at}
 use Rattle.portfolio_run.specs.Names.{place_in}

@@ -3,7 +3,7 @@ use Rattle.std.specs.Prelude.{◌≡◌, ℕ, ◌+◌, ◌^◌, ◌<◌, ◌≤�
 use Rattle.std.specs.declared.alloc.Global.{Global}
 use Rattle.fixed_interval.specs.declared.tables.Table.{Table}
 use Rattle.model_specs.specs.Product.{Product}
-use Rattle.model_specs.specs.Whole.{list_of}
+use Rattle.whole_laws.specs.Whole.{list_of}
 use Rattle.state_graph.specs.StateGraphs.{texts_of}
 use Rattle.thiele_backward.specs.Results.{AreReserves}
 use Rattle.claim_audit.specs.Audits.{tolerance_at}

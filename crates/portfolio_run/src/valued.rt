@@ -1,7 +1,7 @@
 // A product file as it was valued.
 ghost use Rattle.std.specs.Prelude.{◌≡◌, ◌≤◌, ◌<◌, ◌+◌, ◌*◌, ◌^◌, All, length, IfErr, IfOk};
 ghost use Rattle.named_numbers.specs.Numbers.{cells_of_month};
-ghost use Rattle.model_specs.specs.Whole.{list_of};
+ghost use Rattle.whole_laws.specs.Whole.{list_of};
 ghost use Rattle.state_graph.specs.StateGraphs.{texts_of};
 ghost use Rattle.claim_audit.specs.Audits.{tolerance_at};
 ghost use Rattle.portfolio_run.specs.Names.{place_in};

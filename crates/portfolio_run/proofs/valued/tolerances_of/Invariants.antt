@@ -1,6 +1,6 @@
 use Rattle.std.proofs.Common.{◌≡◌, ◌≤◌, ◌^◌}
 use Rattle.std.specs.Prelude.{All}
-use Rattle.model_specs.specs.Whole.{list_of}
+use Rattle.whole_laws.specs.Whole.{list_of}
 use Rattle.claim_audit.specs.Audits.{tolerance_at}
 use Rattle.portfolio_run.proofs.valued.tolerances_of.Given as goal
 
