@@ -90,7 +90,10 @@ fn lump(a: &Product, b: &Product, paid: &Lump) -> Lump
     requires lives { CanJoin a.now b.now }
     requires inside { paid.now.state < length a.now.states }
     ensures { lump_of result ≡ record {
-        month = paid.now.month; state = pair_of b.now paid.now.state b.now.start; amount = paid.now.amount } }
+      month = paid.now.month;
+      state = pair_of b.now paid.now.state b.now.start;
+      amount = paid.now.amount;
+    } }
 {
     Lump {
         month: paid.month,
