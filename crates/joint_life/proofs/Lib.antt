@@ -1,9 +1,13 @@
+pub mod CarriedFlows
 pub mod DistinctLists
 pub mod PairNames
+pub mod JointIntensities
 pub mod JointParts
 pub mod KeptPieces
+pub mod MarginalRuns
 pub mod MoveLists
 pub mod PairIndices
 pub mod Records
+pub mod Searches
 pub mod ShorterCurves
 pub mod Transitions

@@ -2,4 +2,5 @@ pub mod Breaks
 pub mod Joining
 pub mod JointRecord
 pub mod Laws
+pub mod Marginals
 pub mod Moves

@@ -5,10 +5,11 @@ ghost use Rattle.product_model.specs.Views.{curve_of};
 ghost use Rattle.joint_life.specs.Breaks.{first_break};
 ghost use Rattle.joint_life.specs.Joining.{CanJoin};
 ghost use Rattle.joint_life.specs.JointRecord.{joint_of};
+ghost use Rattle.joint_life.specs.Marginals.{HasMarginals};
 ghost use Rattle.joint_life.specs.declared.breaks.JoinBreak as breaks;
 
 use crate::breaks::{JoinBreak, first_break};
-use crate::laws::joint_records_are_well_formed;
+use crate::laws::{joint_records_are_well_formed, marginals_are_single_lives};
 use crate::moves::moves_of;
 use crate::pairs::graph_of_pairs;
 use crate::payments::{plan, with_start};
@@ -58,9 +59,11 @@ fn interest_of(alloc: Global, a: &Product) -> Result<Curve, AllocError>
 // The joint record of two lives that can be joined.
 fn joint_product(alloc: Global, a: &Product, b: &Product) -> Result<Product, AllocError>
     requires { CanJoin a.now b.now }
-    ensures { IfOk result (λ joint. joint ≡ joint_of a.now b.now) }
+    ensures joint { IfOk result (λ joint. joint ≡ joint_of a.now b.now) }
+    ensures marginals { IfOk result (λ joint. HasMarginals joint a.now b.now) }
 {
     joint_records_are_well_formed();
+    marginals_are_single_lives();
     let pairs = a.graph().states() * b.graph().states();
     let moves = moves_of(alloc, a, b, pairs)?;
     let name = name_of(alloc, a)?;
@@ -75,10 +78,12 @@ fn joint_product(alloc: Global, a: &Product, b: &Product) -> Result<Product, All
 }
 
 /// The joint record of two lives: the chain of the pairs of their states, where the contract of life A is in force
-/// while life B is in its start state. It refuses lives that have none, by the first part that is broken. It may break
-/// rules 17 and 18.
+/// while life B is in its start state. Its probabilities, added over the states of one life, are exactly the other
+/// life's, in every degree. It refuses lives that have none, by the first part that is broken. It may break rules 17
+/// and 18.
 pub fn join(alloc: Global, a: &Admitted, b: &Admitted) -> Result<Product, JoinError>
     ensures ok { IfOk result (λ joint. joint ≡ joint_of a.now b.now) }
+    ensures marginals { IfOk result (λ joint. HasMarginals joint a.now b.now) }
     ensures can_join { IfOk result (λ _. first_break a.now b.now ≡ None) }
     ensures join { (broken : breaks.JoinBreak) → result ≡ Err (JoinError.Join broken)
         → first_break a.now b.now ≡ Some broken }

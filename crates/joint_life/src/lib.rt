@@ -13,4 +13,4 @@ mod tests;
 
 pub use breaks::JoinBreak;
 pub use joining::{JoinError, join};
-pub use laws::joint_records_are_well_formed;
+pub use laws::{joint_records_are_well_formed, marginals_are_single_lives};

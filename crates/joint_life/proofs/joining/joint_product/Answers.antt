@@ -7,6 +7,7 @@ use Rattle.product_model.specs.Parts.{FitTogether, product_of_parts}
 use Rattle.product_model.specs.Views.{curve_of}
 use Rattle.product_reader.proofs.Wholes.{parts_fit, product_again}
 use Rattle.joint_life.specs.JointRecord.{joint_of, pair_of}
+use Rattle.joint_life.specs.Marginals.{HasMarginals}
 use Rattle.joint_life.specs.Moves.{transition_of}
 use Rattle.joint_life.proofs.JointParts.{joint_parts_are}
 use Rattle.joint_life.proofs.MoveLists.{by_moves}
@@ -27,8 +28,8 @@ new-requires c =
     start c.months-months.ensures.value den c.in_ok-interest.ensures rates c.in_ok-plan.ensures))
     (parts_fit (joint_of a b) (c.joint_records_are_well_formed.ensures a b c.requires))
 
-pub returns : goal.returns
-returns c =
+pub returns-clause-joint : goal.returns-clause-joint
+returns-clause-joint c =
     let a = c.args.a.now in
     let b = c.args.b.now in
     let fits : SFits w64 c.den-den.result = search rules in
@@ -42,3 +43,8 @@ returns c =
     c.in_ok-graph.ensures start c.months-months.ensures.value den c.in_ok-interest.ensures rates
     c.in_ok-plan.ensures)
     ∙ product_again (joint_of a b)
+
+pub returns-clause-marginals : goal.returns-clause-marginals
+returns-clause-marginals c =
+    subst (λ joint. HasMarginals joint c.args.a.now c.args.b.now) (sym (returns-clause-joint c))
+    (c.marginals_are_single_lives.ensures c.args.a.now c.args.b.now c.requires)
