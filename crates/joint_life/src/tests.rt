@@ -76,13 +76,6 @@ fn two_lives_are_a_chain_of_four_pairs(rt: HostRuntime) -> Result<(), Fail> {
     assert_eq!(rt; joint.graph().states(), 4);
     assert_eq!(rt; joint.months(), 120);
     assert_eq!(rt; joint.transitions(), 4);
-    for (pair, name) in [(0, "0.0"), (1, "0.1"), (2, "1.0"), (3, "1.1")] {
-        assert_eq!(rt; joint.graph().name(pair), name.as_bytes());
-    }
-    for (e, from, to, pieces) in [(0, 0, 2, 1), (1, 0, 1, 1), (2, 1, 3, 1), (3, 2, 3, 1)] {
-        assert_eq!(rt; joint.graph().pair(e), (from, to));
-        assert_eq!(rt; joint.rate(e).pieces().len(), pieces);
-    }
     Ok(())
 }
 

@@ -71,6 +71,10 @@ kept_reserve product months states table tolerances month place state ends tol k
     record {
       ends = subst (λ t. AreEndsFor table.degree
           (λ n. reserve_at product n month (place_in product.states state)) t ends) (sym tol_is) with_ends;
+      has = record {
+        in_term = omega (arith, early, keeps.months_are);
+        known = subst (λ p. p < length product.states) named known;
+      };
       tolerance_is = tol_is;
       small = subst (λ t. t ≤ 2 ^ 58) (sym tol_at)
           (All-get_or (λ tolerance. tolerance ≤ 2 ^ 58) tolerances month tol room keeps.small);

@@ -1,6 +1,11 @@
+pub mod AllSums
 pub mod FirstHoldings
 pub mod FiveFields
+pub mod GroupSums
 pub mod KeptHoldings
 pub mod KeptTables
+pub mod KeptTotals
+pub mod NamedSums
 pub mod NotedNames
+pub mod OwnPlaces
 pub mod RecordCounts

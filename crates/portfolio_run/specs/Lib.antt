@@ -1,6 +1,9 @@
 pub mod Holdings
+pub mod Named
 pub mod Names
 pub mod Readings
 pub mod Stored
+pub mod Sums
 pub mod Tables
+pub mod Totals
 pub mod Values

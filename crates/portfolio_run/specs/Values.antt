@@ -21,18 +21,19 @@ pub record IsValued (valued : ValuedProduct) : Type 0 where
   pub reserves : AreReserves valued.product 1 table
   pub degree_is : valued.degree ≡ table.degree
 
+-- a product has reserves of a date and of the state with a name
+pub record HasReserve (product : Product) (month : ℕ) (state : List ℕ) : Type 0 where
+  pub in_term : month ≤ product.months
+  pub known : place_in product.states state < length product.states
+
 -- ends of the reserve of a date and of the state with a name, no further apart than the date's tolerance
 pub record IsReserve (valued : ValuedProduct) (month : ℕ) (state : List ℕ) (reserve : Reserve) : Type 0 where
   pub ends : AreEndsFor valued.degree
       (λ n. reserve_at valued.product n month (place_in valued.product.states state)) reserve.tol
       (record { lo = reserve.lo; hi = reserve.hi })
+  pub has : HasReserve valued.product month state
   pub tolerance_is : reserve.tol ≡ tolerance_at valued.product month
   pub small : reserve.tol ≤ 2 ^ 58
-
--- a product has reserves of a date and of the state with a name
-pub record HasReserve (product : Product) (month : ℕ) (state : List ℕ) : Type 0 where
-  pub in_term : month ≤ product.months
-  pub known : place_in product.states state < length product.states
 
 -- what is missing first: the date or the state
 abbrev pub IsMissing : Product → (month : ℕ) → (state : List ℕ) → Missing → Type 0

@@ -5,11 +5,14 @@ mod fields;
 mod names;
 mod policies;
 mod reading;
+mod sums;
+mod totals;
 mod valued;
 
 pub use fields::Fault;
 pub use policies::Policies;
 pub use reading::{PolicyError, read_policies};
+pub use totals::{Total, Totals};
 
 #[cfg(test)]
 mod tests;

@@ -1,12 +1,16 @@
 // Holdings as they are kept.
-ghost use Rattle.std.specs.Prelude.{◌≡◌, ◌+◌, ◌*◌, ◌^◌, ◌<◌, ◌≤◌, ◌++◌, ◌∷◌, [], List, length, OnOk, OnErr};
+ghost use Rattle.std.specs.Prelude.{◌≡◌, ◌+◌, ◌*◌, ◌^◌, ◌<◌, ◌≤◌, ◌++◌, ◌∷◌, [], List, length, IfErr, IfOk};
+ghost use Rattle.std.specs.Prelude.{OnOk, OnErr};
 ghost use Rattle.portfolio_run.specs.Holdings.{Holding};
 ghost use Rattle.named_numbers.specs.Numbers.{cells_of_month};
 ghost use Rattle.state_graph.specs.StateGraphs.{texts_of};
 ghost use Rattle.portfolio_run.specs.Readings.{files_of};
+ghost use Rattle.portfolio_run.specs.Totals.{AreTotals, TellsUncovered};
 ghost use Rattle.portfolio_run.specs.Stored.{most_bytes, AddsValued, AreKept, kept_holdings};
 
 use crate::names::Names;
+use crate::reading::PolicyError;
+use crate::totals::{Totals, totals_of};
 use crate::valued::ValuedFile;
 use rate_bounds::Admitted;
 use std::alloc::{AllocError, Global};
@@ -40,6 +44,7 @@ pub struct Policies {
 
 impl Model for Policies {
     ghost use Rattle.std.specs.Prelude.{◌≤◌, length};
+    ghost use Rattle.portfolio_run.specs.Totals.{AreTotals, TellsUncovered};
     ghost use Rattle.portfolio_run.specs.Stored.{most_bytes, AreKept, Portfolio, kept_holdings};
 
     ghost Value = { Portfolio };
@@ -72,7 +77,8 @@ impl Policies {
 
     /// The names of the different files, in the order in which they are first seen.
     pub fn files(&self) -> &[Vec<u8>]
-        ensures { texts_of result.now ≡ files_of self.now.holdings }
+        ensures names { texts_of result.now ≡ files_of self.now.holdings }
+        ensures count { length result.now ≡ length (files_of self.now.holdings) }
     {
         self.files.as_slice()
     }
@@ -82,6 +88,20 @@ impl Policies {
         ensures { result ≡ length self.now.valued }
     {
         self.valued.len()
+    }
+
+    /// The totals by group, where all files are valued, or the first row whose product has not its date or its state.
+    pub fn totals(&self) -> Result<Totals, PolicyError>
+        requires all { length self.now.valued ≡ length (files_of self.now.holdings) }
+        ensures ok { IfOk result (AreTotals self.now) }
+        ensures err { IfErr result (TellsUncovered self.now) }
+    {
+        totals_of(
+            self.alloc,
+            self.groups.as_slice(),
+            &self.policies,
+            &self.valued,
+        )
     }
 
     /// Values the first file that is not valued yet, by its product. It takes 32 steps a month, and memory for the
@@ -95,6 +115,7 @@ impl Policies {
         requires count { steps.old + cells_of_month * adm.now.months < 2 ^ 63 }
         ensures ok { OnOk result (AddsValued adm.now self.old self.new) }
         ensures err { OnErr result (self.new ≡ self.old) }
+        ensures steps { steps.new ≤ steps.old + cells_of_month * adm.now.months }
     {
         let valued = ValuedFile::value(self.alloc, adm, steps)?;
         self.valued.push(valued)?;

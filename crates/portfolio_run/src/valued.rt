@@ -127,6 +127,7 @@ impl ValuedFile {
         requires count { steps.old + cells_of_month * adm.now.months < 2 ^ 63 }
         ensures product { IfOk result (λ valued. valued.product ≡ adm.now) }
         ensures valued { IfOk result IsValued }
+        ensures steps { steps.new ≤ steps.old + cells_of_month * adm.now.months }
     {
         let product = adm.product();
         let months = product.months();

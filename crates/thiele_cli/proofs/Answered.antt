@@ -28,8 +28,8 @@ use Rattle.thiele_cli.specs.Verdicts.{IsVerdictOn, IsVerdictOnFile}
 
 -- the bytes that a shelf gave are those that it tells
 pub bytes_of : (files : Files) (name : List ℕ) (bytes : Vec ℕ Global)
-    → AnswersFrom files name most_file_bytes (Ok bytes)
-    → length bytes.items ≤ most_file_bytes → AreBytesOf files name bytes.items
+    → AnswersFrom files name most_file_bytes (Ok bytes) → length bytes.items ≤ most_file_bytes
+    → AreBytesOf files name bytes.items
 bytes_of None name bytes from short = record { told = tt; short = short }
 bytes_of (Some files) name bytes from short = record { told = from; short = short }
 
@@ -83,8 +83,7 @@ refused_first files question first second cause fault =
 
 -- the second is
 pub refused_second : (files : Files) (question : PairQuestion) (first second : List ℕ) (old : Product)
-    (cause : FileBreak)
-    → HasProduct files first old → HasFault files second cause
+    (cause : FileBreak) → HasProduct files first old → HasFault files second cause
     → AnswersAsked files (OfFiles question first second) (answer.Refused (refusal.Second cause))
 refused_second files question first second old cause has fault = record {
   case = SecondRefused cause;
@@ -94,8 +93,7 @@ refused_second files question first second old cause has fault = record {
 
 -- two products of which this is asked
 pub answered_pair : (files : Files) (question : PairQuestion) (first second : List ℕ) (old new : Product)
-    (given : Answer)
-    → HasProduct files first old → HasProduct files second new → AnswersOfTwo question old new given
+    (given : Answer) → HasProduct files first old → HasProduct files second new → AnswersOfTwo question old new given
     → AnswersAsked files (OfFiles question first second) given
 answered_pair files question first second old new given has_old has_new says = record {
   case = AnsweredOfTwo question old new;

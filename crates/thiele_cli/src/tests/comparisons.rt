@@ -1,5 +1,5 @@
 use super::{shelf, sink, words};
-use crate::end::{End, Extra};
+use crate::end::{End, Extra, Finish};
 use crate::file_break::FileBreak;
 use crate::run::run;
 use basis_compare::{Change, CompareBreak, Part, Turn};
@@ -20,16 +20,21 @@ fn row_of(rows: &[Change], month: u32, state: u32, part: Part) -> Option<Change>
 fn a_raised_intensity_lowers_the_reserve(rt: HostRuntime) -> Result<(), Fail> {
     let alloc = rt.alloc();
     let mut sink = sink(alloc, &[])?;
-    let finish = run(
+    let Finish {
+        status,
+        end: _,
+        report,
+        extra,
+    } = run(
         alloc,
         &words(alloc, &["compare", "life", "frail", "120"])?,
         &mut shelf(alloc, &[])?,
         &mut sink,
         Vec::new(alloc),
     );
-    assert_eq!(rt; finish.status, 0);
-    assert!(rt; finish.report.is_none());
-    let Extra::Compare(changes) = finish.extra else {
+    assert_eq!(rt; status, 0);
+    assert!(rt; report.is_none());
+    let Extra::Compare(changes) = extra else {
         return Err("no changes".into());
     };
     // two dates, two states and three parts
