@@ -137,7 +137,7 @@ class Report:
         assert lines[0].split(" ")[:2] == ["report", command], f"another first line: {lines[0]}"
         assert head[0] == "degree" and 8 <= int(head[1]) <= 24 and head[2] == "scale", f"another second line: {lines[1]}"
         end = lines.index(next(line for line in lines if line.startswith("end ")))
-        self.rows, self.lines, self.rest = [], lines[2:end], lines[end + 1:]
+        self.rows, self.head, self.lines, self.rest = [], lines[:3], lines[2:end], lines[end + 1:]
         assert lines[end] == f"end {end - 2}", f"another count: {lines[end]}"
         for line in self.lines:
             month, state, what, low, high, tolerance = line.split(" ")
@@ -199,6 +199,7 @@ def check_product(product, limits, ask):
     check_moments(months, states, reserves, told, ask)
     check_premium(row, ask)
     check_no_change(months, states, reserves, ask)
+    check_upgraded(limits, value, ask)
     for report in (value, reserves, occupancy):
         check_columns(report, states)
 
@@ -249,8 +250,22 @@ def check_no_change(months, states, reserves, ask):
         assert (low, high, tolerance, row[6]) == (-width, width, 2 * reserve[5], "open"), f"a change: {row}"
 
 
+def check_upgraded(limits, value, ask):
+    """The product as a file of format 2 is the same product, and upgraded once more it is the same text."""
+    text = ask(["upgrade"])
+    assert tomllib.loads(text)["format"] == 2, "another format"
+    with tempfile.NamedTemporaryFile(dir=work, suffix=".toml") as upgraded:
+        upgraded.write(text.encode())
+        upgraded.flush()
+        again = [["check"], ["value"], ["upgrade"]]
+        told = [subprocess.run([program, *words, upgraded.name], capture_output=True).stdout.decode() for words in again]
+    assert told[0] == limits and told[1].split("\n")[:3] == value.head, "another product"
+    assert told[2] == text, "another text of the upgraded file"
+
+
 # the words of each command without its first file; the second is the same
-COMMANDS = [["value"], ["reserves", "7"], ["occupancy", "5"], ["moments", "7"], ["premium"], ["compare", "FILE", "7"]]
+COMMANDS = [["value"], ["reserves", "7"], ["occupancy", "5"], ["moments", "7"], ["premium"], ["upgrade"],
+            ["compare", "FILE", "7"]]
 
 
 def fault(file):

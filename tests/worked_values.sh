@@ -11,7 +11,7 @@ if [ ! -x "$program" ]; then
   exit 1
 fi
 exec python3 - "$program" <<'PYTHON'
-import pathlib, subprocess, sys, tomllib
+import pathlib, subprocess, sys, tempfile, tomllib
 from fractions import Fraction
 
 program, folder = sys.argv[1], pathlib.Path("tests/values")
@@ -124,6 +124,18 @@ same = ran.returncode == 0 and tomllib.loads(ran.stdout) == tomllib.loads(outsid
 passed, failed = passed + same, failed + (not same)
 if not same:
     print("FAILED generate 7: another tree than that of generated-7.toml")
+# the product of an upgraded file has the same value, and its file is the same when it is upgraded again
+ran = subprocess.run([program, "upgrade", "death-benefit.toml"], cwd=folder, capture_output=True, text=True)
+with tempfile.TemporaryDirectory() as work:
+    pathlib.Path(work, "upgraded.toml").write_text(ran.stdout, encoding="utf-8")
+    value, again = (subprocess.run([program, command, "upgraded.toml"], cwd=work, capture_output=True, text=True).stdout
+                    for command in ("value", "upgrade"))
+row = rows_of(value.split("\n")).get(("0", "active", "value"), ("1", "0"))
+# 40000 (1 - exp(-1/2)) = 15738.773611494..
+same = Fraction(row[0]) <= Fraction("15738.773611494") <= Fraction(row[1]) and again == ran.stdout
+passed, failed = passed + same, failed + (not same)
+if not same:
+    print("FAILED upgrade death-benefit.toml: another product than that of the file")
 print(f"{passed} passed, {failed} failed")
 raise SystemExit(failed > 0)
 PYTHON

@@ -3,8 +3,7 @@ use Rattle.std.proofs.Common.{◌≡◌, ℕ, ◌+◌, ◌*◌, ◌<◌, ◌^◌
 use Rattle.std.specs.Prelude.{◌==◌, if◌then◌else◌}
 use Rattle.std.proofs.lemmas.Fmt.{decimal_injective}
 use Rattle.command_words.specs.Readings.{Request, Check, Value, Reserves, Occupancy, Moments, Premium, Generate}
-use Rattle.command_words.specs.Readings.{Compare}
-use Rattle.command_words.specs.Readings.{AreReadAs, ReadingsAreOne}
+use Rattle.command_words.specs.Readings.{Upgrade, Compare, AreReadAs, ReadingsAreOne}
 
 -- a word by its place, and the first two letters of the first word, as one number
 abbrev word-at : ℕ → List (List ℕ) → List ℕ
@@ -19,7 +18,8 @@ make first file second number =
     if first == 99104 then Check file else (if first == 118097 then Value file
     else (if first == 112114 then Premium file else (if first == 114101 then Reserves file number
     else (if first == 111099 then Occupancy file number else (if first == 109111 then Moments file number
-    else (if first == 99111 then Compare file second number else Generate number))))))
+    else (if first == 99111 then Compare file second number else (if first == 117112 then Upgrade file
+    else Generate number)))))))
 
 -- where its number stands: the second word of a seed, the third or fourth of requests at dates, and else nowhere
 abbrev text : ℕ → List (List ℕ) → List ℕ
@@ -36,6 +36,7 @@ number-of (Occupancy file every) = every
 number-of (Moments file every) = every
 number-of (Premium file) = 0
 number-of (Generate seed) = seed
+number-of (Upgrade file) = 0
 number-of (Compare first second every) = every
 
 made : (words : List (List ℕ)) (a : Request) → AreReadAs words a
@@ -47,6 +48,7 @@ made words (Occupancy file every) a = rw (ap letters a.are, ap (word-at 1) a.are
 made words (Moments file every) a = rw (ap letters a.are, ap (word-at 1) a.are) refl
 made words (Premium file) a = rw (ap letters a.are, ap (word-at 1) a.are) refl
 made words (Generate seed) a = rw (ap letters a.are) refl
+made words (Upgrade file) a = rw (ap letters a.are, ap (word-at 1) a.are) refl
 made words (Compare first second every) a =
     rw (ap letters a.are, ap (word-at 1) a.are, ap (word-at 2) a.are) refl
 
@@ -59,6 +61,7 @@ written words (Occupancy file every) a = rw (ap letters a.are) (sym (ap (word-at
 written words (Moments file every) a = rw (ap letters a.are) (sym (ap (word-at 2) a.are))
 written words (Premium file) a = rw (ap letters a.are) refl
 written words (Generate seed) a = rw (ap letters a.are) (sym (ap (word-at 1) a.are))
+written words (Upgrade file) a = rw (ap letters a.are) refl
 written words (Compare first second every) a = rw (ap letters a.are) (sym (ap (word-at 3) a.are))
 
 fits : (words : List (List ℕ)) (a : Request) → AreReadAs words a → number-of a < 2 ^ 64
@@ -69,6 +72,7 @@ fits words (Occupancy file every) a = omega (arith, a.most)
 fits words (Moments file every) a = omega (arith, a.most)
 fits words (Premium file) a = lit< tt
 fits words (Generate seed) a = a.fits
+fits words (Upgrade file) a = lit< tt
 fits words (Compare first second every) a = omega (arith, a.most)
 
 pub readings_are_one : ReadingsAreOne

@@ -15,6 +15,7 @@ pub data Request : Type 0 where
   Moments : List ℕ → ℕ → Request
   Premium : List ℕ → Request
   Generate : ℕ → Request
+  Upgrade : List ℕ → Request
   Compare : List ℕ → List ℕ → ℕ → Request
 
 -- the words are a command and the name of a file, which has at least one byte
@@ -51,6 +52,7 @@ AreReadAs words (Occupancy file every) = AsksAtDates words (codes "occupancy") f
 AreReadAs words (Moments file every) = AsksAtDates words (codes "moments") file every
 AreReadAs words (Premium file) = AsksOfFile words (codes "premium") file
 AreReadAs words (Generate seed) = AsksOfSeed words seed
+AreReadAs words (Upgrade file) = AsksOfFile words (codes "upgrade") file
 AreReadAs words (Compare first second every) = AsksOfFilesAtDates words (codes "compare") first second every
 
 -- the words have a reading

@@ -26,6 +26,8 @@ pub enum Command<'a> {
     Premium(&'a str),
     /// Print the product file that is generated from a seed.
     Generate(u64),
+    /// Print the product as a file of format 2.
+    Upgrade(&'a str),
     /// The changes of the reserves from the basis of the first file to that of the second, at these dates.
     Compare(&'a str, &'a str, u32),
 }
@@ -48,6 +50,7 @@ fn two_words<'a>(command: &str, word: &'a str) -> Option<Command<'a>>
         "check" => Some(Command::Check(word)),
         "value" => Some(Command::Value(word)),
         "premium" => Some(Command::Premium(word)),
+        "upgrade" => Some(Command::Upgrade(word)),
         _ => None,
     }
 }

@@ -18,6 +18,7 @@ fn words_and_their_readings(rt: HostRuntime) {
         ("occupancy a 1200", Some(Command::Occupancy("a", 1200))),
         ("moments a 1", Some(Command::Moments("a", 1))),
         ("premium a", Some(Command::Premium("a"))),
+        ("upgrade a", Some(Command::Upgrade("a"))),
         ("compare a b 12", Some(Command::Compare("a", "b", 12))),
         ("generate 0", Some(Command::Generate(0))),
         (
@@ -33,6 +34,7 @@ fn words_and_their_readings(rt: HostRuntime) {
         ("reserves a 012", None),
         ("reserves a 1x", None),
         ("moments  1", None),
+        ("upgrade ", None),
         ("compare a  1", None),
         ("compare a b 1201", None),
         ("compare a b", None),

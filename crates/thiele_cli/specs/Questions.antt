@@ -1,7 +1,7 @@
 -- What the commands ask, and of which files or seed.
 use Rattle.std.specs.Prelude.{◌≡◌, ◌⊎◌, ℕ, ◌<◌, List, ⊤}
 use Rattle.command_words.specs.Readings.{Request, Check, Value, Reserves, Occupancy, Moments, Premium, Generate}
-use Rattle.command_words.specs.Readings.{Compare, AreReadAs}
+use Rattle.command_words.specs.Readings.{Upgrade, Compare, AreReadAs}
 use Rattle.thiele_cli.specs.declared.question.Question.{Question}
 use Rattle.thiele_cli.specs.declared.question.Question.TheVariants as question
 use Rattle.thiele_cli.specs.declared.pair_question.PairQuestion.{PairQuestion}
@@ -22,6 +22,7 @@ asked_of (Occupancy file every) = OfFile (question.Occupancy every) file
 asked_of (Moments file every) = OfFile (question.Moments every) file
 asked_of (Premium file) = OfFile question.Premium file
 asked_of (Generate seed) = OfSeed seed
+asked_of (Upgrade file) = OfFile question.Upgraded file
 asked_of (Compare first second every) = OfFiles (pair_question.Changes every) first second
 
 -- dates that are asked for lie some months apart
@@ -32,6 +33,7 @@ HasDates (question.Reserves every) = 0 < every
 HasDates (question.Occupancy every) = 0 < every
 HasDates (question.Moments every) = 0 < every
 HasDates question.Premium = ⊤
+HasDates question.Upgraded = ⊤
 
 -- and so do those that are asked for of two products
 abbrev pub HasDatesOfTwo : PairQuestion → Type 0

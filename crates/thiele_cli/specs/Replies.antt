@@ -6,6 +6,7 @@ use Rattle.named_numbers.specs.Numbers.{highest_degree}
 use Rattle.basis_compare.specs.ChangesText.{HaveText, changes_text}
 use Rattle.model_specs.specs.Product.{Product}
 use Rattle.product_file.specs.Verdict.{ReadsAs, IsValid}
+use Rattle.file_upgrade.specs.Upgraded.{IsOfFormat2}
 use Rattle.report_columns.specs.Columns.{ColumnText}
 use Rattle.reserve_report.specs.declared.report.Report.{Report}
 use Rattle.reserve_report.specs.declared.report.Kind.TheVariants as kind
@@ -37,7 +38,7 @@ use Rattle.thiele_cli.specs.Cases.{Case, NoReading, Generated, FirstRefused, Sec
 abbrev pub end_of : Answer → End
 end_of (answer.Limits product) = end.Done
 end_of (answer.Report product report) = end.Done
-end_of (answer.Generated text) = end.Done
+end_of (answer.File text) = end.Done
 end_of (answer.Refused why) = refused_end why
 end_of (answer.Changes old new changes) = end.Done
 
@@ -45,7 +46,7 @@ end_of (answer.Changes old new changes) = end.Done
 abbrev pub report_of : Answer → Option Report
 report_of (answer.Limits product) = None
 report_of (answer.Report product report) = Some report
-report_of (answer.Generated text) = None
+report_of (answer.File text) = None
 report_of (answer.Refused why) = None
 report_of (answer.Changes old new changes) = None
 
@@ -53,7 +54,7 @@ report_of (answer.Changes old new changes) = None
 abbrev pub extra_of : Answer → Extra
 extra_of (answer.Limits product) = extra.Nothing
 extra_of (answer.Report product report) = extra.Nothing
-extra_of (answer.Generated text) = extra.Nothing
+extra_of (answer.File text) = extra.Nothing
 extra_of (answer.Refused why) = extra.Nothing
 extra_of (answer.Changes old new changes) = extra.Compare changes
 
@@ -61,7 +62,7 @@ extra_of (answer.Changes old new changes) = extra.Compare changes
 abbrev pub text_of : Answer → List ColumnText → List ℕ
 text_of (answer.Limits product) columns = check_text product
 text_of (answer.Report product report) columns = report_text product report columns
-text_of (answer.Generated text) columns = text.items
+text_of (answer.File text) columns = text.items
 text_of (answer.Refused why) columns = line_of why
 text_of (answer.Changes old new changes) columns = changes_text old new changes
 
@@ -78,7 +79,7 @@ HasLine (refusal.Compare broken) = ⊤
 abbrev pub IsPrintable : Answer → Type 0
 IsPrintable (answer.Limits product) = ⊤
 IsPrintable (answer.Report product report) = HasText product report
-IsPrintable (answer.Generated text) = ⊤
+IsPrintable (answer.File text) = ⊤
 IsPrintable (answer.Refused why) = HasLine why
 IsPrintable (answer.Changes old new changes) = HaveText old changes
 
@@ -100,6 +101,13 @@ pub record IsRefusedPremium (product : Product) (given : Answer) : Type 0 where
   pub too_small : IsTooSmall product low
   pub none_large : (n : ℕ) → highest_degree ≤ n → ¬ IsLargePattern product n
 
+-- the answer is a text of format 2 whose product is this one, and it breaks no rule
+pub record IsUpgraded (product : Product) (given : Answer) : Type 0 where
+  pub text : Vec ℕ Global
+  pub answers : given ≡ answer.File text
+  pub valid : IsValid text.items product
+  pub format : IsOfFormat2 text.items
+
 -- the answer to a question about a product that breaks no rule
 abbrev pub AnswersQuestion : Question → Product → Answer → Type 0
 AnswersQuestion question.Limits product given = given ≡ answer.Limits product
@@ -110,6 +118,7 @@ AnswersQuestion (question.Occupancy every) product given =
 AnswersQuestion (question.Moments every) product given = Reports product (IsReport product kind.Moments every) given
 AnswersQuestion question.Premium product given =
     Reports product (IsPremiumReport product) given ⊎ IsRefusedPremium product given
+AnswersQuestion question.Upgraded product given = IsUpgraded product given
 
 -- the answer to a question about two products that break no rule
 abbrev pub AnswersOfTwo : PairQuestion → (old new : Product) → Answer → Type 0
@@ -118,7 +127,7 @@ AnswersOfTwo (pair_question.Changes every) old new given = AnswersComparison old
 -- the answer is a text that reads as the tree of the seed, and breaks no rule
 pub record IsGenerated (seed : ℕ) (given : Answer) : Type 0 where
   pub text : Vec ℕ Global
-  pub answers : given ≡ answer.Generated text
+  pub answers : given ≡ answer.File text
   pub reads : ReadsAs text.items (generated seed)
   pub valid : IsValid text.items (generated_product seed)
 

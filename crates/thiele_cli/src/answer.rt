@@ -18,8 +18,8 @@ pub enum Answer {
     Limits(Admitted),
     /// A report about a product.
     Report(Admitted, Report),
-    /// A product file that was generated.
-    Generated(Vec<u8>),
+    /// A product file.
+    File(Vec<u8>),
     /// No answer, but a line that says why.
     Refused(Refusal),
     /// The changes from the basis of one product to that of another.
@@ -34,7 +34,7 @@ impl Answer {
         match self {
             Answer::Limits(_) => End::Done,
             Answer::Report(..) => End::Done,
-            Answer::Generated(_) => End::Done,
+            Answer::File(_) => End::Done,
             Answer::Refused(why) => why.end(),
             Answer::Changes(..) => End::Done,
         }
@@ -54,7 +54,7 @@ impl Answer {
             Answer::Report(admitted, report) => {
                 report_bytes(alloc, admitted.product(), report, columns)
             }
-            Answer::Generated(text) => text.clone(),
+            Answer::File(text) => text.clone(),
             Answer::Refused(why) => why.line(alloc),
             Answer::Changes(old, new, changes) => {
                 changes_bytes(alloc, old.product(), new.product(), changes)
@@ -70,7 +70,7 @@ impl Answer {
         match self {
             Answer::Limits(_) => (None, Extra::Nothing),
             Answer::Report(_, report) => (Some(report), Extra::Nothing),
-            Answer::Generated(_) => (None, Extra::Nothing),
+            Answer::File(_) => (None, Extra::Nothing),
             Answer::Refused(_) => (None, Extra::Nothing),
             Answer::Changes(_, _, changes) => (None, Extra::Compare(changes)),
         }

@@ -72,7 +72,7 @@ fn seed_answer(alloc: Global, seed: u64) -> Result<Answer, AllocError>
     ensures answer { IfOk result (IsGenerated seed) }
     ensures printable { IfOk result IsPrintable }
 {
-    Ok(Answer::Generated(make(alloc, seed)?))
+    Ok(Answer::File(make(alloc, seed)?))
 }
 
 /// The answer to a command. A seed needs no file.
@@ -105,6 +105,7 @@ pub fn command_answer<H: Shelf>(
         }
         Command::Premium(name) => named_answer(alloc, Question::Premium, name, shelf),
         Command::Generate(seed) => Ok(seed_answer(alloc, seed)?),
+        Command::Upgrade(name) => named_answer(alloc, Question::Upgraded, name, shelf),
         Command::Compare(first, second, every) => {
             two_named_answer(alloc, PairQuestion::Changes(every), first, second, shelf)
         }

@@ -15,6 +15,7 @@ mod refusal;
 mod run;
 #[cfg(test)]
 mod tests;
+mod upgrading;
 mod valuation;
 mod verdict;
 

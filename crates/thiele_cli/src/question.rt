@@ -4,6 +4,7 @@ ghost use Rattle.thiele_cli.specs.Questions.{HasDates};
 ghost use Rattle.thiele_cli.specs.Replies.{AnswersQuestion, IsPrintable};
 
 use crate::answer::Answer;
+use crate::upgrading::upgraded_answer;
 use crate::valuation::{
     moments_answer, occupancy_answer, premium_answer, reserves_answer, value_answer,
 };
@@ -28,6 +29,8 @@ pub enum Question {
     Moments(u32),
     /// Its equivalence premium, by `premium`.
     Premium,
+    /// The product as a file of format 2, by `upgrade`.
+    Upgraded,
 }
 
 // The answer, by sweeps that count their steps.
@@ -52,6 +55,7 @@ fn counted_answer<L: Ledger>(
         Question::Occupancy(every) => occupancy_answer(alloc, admitted, every, &mut steps),
         Question::Moments(every) => moments_answer(alloc, admitted, every, &mut steps),
         Question::Premium => premium_answer(alloc, admitted, &mut steps),
+        Question::Upgraded => upgraded_answer(alloc, admitted),
     }
 }
 
