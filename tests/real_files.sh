@@ -108,6 +108,12 @@ sed -e 's/396094500958/792189001916/' -e 's/c = \[-1\]/c = [0]/' "$top/tests/fil
 try 'a hybrid whose bound is too large' 13 $'refused derived rule 18 place 0\n' \
   compare "$work/doubled.toml" "$top/tests/files/largest-bound.toml" 1
 
+try 'a second life of a shorter term' 12 $'refused join part 1\n' \
+  join "$top/tests/values/active-annuity.toml" "$top/tests/values/back-and-forth.toml"
+try 'more than twelve pairs of states' 12 $'refused join part 3\n' \
+  join "$top/tests/values/ring-of-eight.toml" "$top/tests/values/ring-of-eight.toml"
+try 'an empty second life' 11 $'refused second rule 1 place 0\n' join "$top/tests/values/active-annuity.toml" /dev/null
+
 # how each file of `files` is judged: `ok`, the product's name and how much it has of what; or the line that refuses it
 while read -r name verdict <&3; do
   case $verdict in

@@ -124,18 +124,37 @@ same = ran.returncode == 0 and tomllib.loads(ran.stdout) == tomllib.loads(outsid
 passed, failed = passed + same, failed + (not same)
 if not same:
     print("FAILED generate 7: another tree than that of generated-7.toml")
+
+
+def value_of(text):
+    """What the program says of the product file with this text: by `check` and by `value`, and the ends of its value."""
+    with tempfile.TemporaryDirectory() as work:
+        pathlib.Path(work, "made.toml").write_text(text, encoding="utf-8")
+        told = [subprocess.run([program, command, "made.toml"], cwd=work, capture_output=True, text=True).stdout.split("\n")
+                for command in ("check", "value", "upgrade")]
+    low, high = list(rows_of(told[1]).values() or [["1", "0"]])[0][:2]
+    return told, Fraction(low), Fraction(high)
+
+
+def made_by(*words):
+    """The product file that the command writes."""
+    return subprocess.run([program, *words], cwd=folder, capture_output=True, text=True).stdout
+
+
 # the product of an upgraded file has the same value, and its file is the same when it is upgraded again
-ran = subprocess.run([program, "upgrade", "death-benefit.toml"], cwd=folder, capture_output=True, text=True)
-with tempfile.TemporaryDirectory() as work:
-    pathlib.Path(work, "upgraded.toml").write_text(ran.stdout, encoding="utf-8")
-    value, again = (subprocess.run([program, command, "upgraded.toml"], cwd=work, capture_output=True, text=True).stdout
-                    for command in ("value", "upgrade"))
-row = rows_of(value.split("\n")).get(("0", "active", "value"), ("1", "0"))
+text = made_by("upgrade", "death-benefit.toml")
+told, low, high = value_of(text)
 # 40000 (1 - exp(-1/2)) = 15738.773611494..
-same = Fraction(row[0]) <= Fraction("15738.773611494") <= Fraction(row[1]) and again == ran.stdout
+same = low <= Fraction("15738.773611494") <= high and "\n".join(told[2]) == text
 passed, failed = passed + same, failed + (not same)
 if not same:
     print("FAILED upgrade death-benefit.toml: another product than that of the file")
+# an annuity of 1200 a year while both live, for ten years: 12000 (1 - exp(-1)) = 7585.446705942..
+told, low, high = value_of(made_by("join", "active-annuity.toml", "second-life.toml"))
+same = low <= Fraction("7585.446705942") <= high and told[0][1] == "states 4 months 120 transitions 4 lumps 0"
+passed, failed = passed + same, failed + (not same)
+if not same:
+    print("FAILED join active-annuity.toml second-life.toml: another product than that of both lives")
 print(f"{passed} passed, {failed} failed")
 raise SystemExit(failed > 0)
 PYTHON

@@ -16,6 +16,7 @@ pub data Request : Type 0 where
   Premium : List ℕ → Request
   Generate : ℕ → Request
   Upgrade : List ℕ → Request
+  Join : List ℕ → List ℕ → Request
   Compare : List ℕ → List ℕ → ℕ → Request
 
 -- the words are a command and the name of a file, which has at least one byte
@@ -29,6 +30,12 @@ pub record AsksAtDates (words : List (List ℕ)) (command file : List ℕ) (ever
   pub named : 0 < length file
   pub least : 1 ≤ every
   pub most : every ≤ 1200
+
+-- the words are a command and the names of two files
+pub record AsksOfFiles (words : List (List ℕ)) (command first second : List ℕ) : Type 0 where
+  pub are : words ≡ command ∷ first ∷ second ∷ []
+  pub first_named : 0 < length first
+  pub second_named : 0 < length second
 
 -- the words are a command, the names of two files, and such a number of months
 pub record AsksOfFilesAtDates (words : List (List ℕ)) (command first second : List ℕ) (every : ℕ) : Type 0 where
@@ -53,6 +60,7 @@ AreReadAs words (Moments file every) = AsksAtDates words (codes "moments") file 
 AreReadAs words (Premium file) = AsksOfFile words (codes "premium") file
 AreReadAs words (Generate seed) = AsksOfSeed words seed
 AreReadAs words (Upgrade file) = AsksOfFile words (codes "upgrade") file
+AreReadAs words (Join first second) = AsksOfFiles words (codes "join") first second
 AreReadAs words (Compare first second every) = AsksOfFilesAtDates words (codes "compare") first second every
 
 -- the words have a reading

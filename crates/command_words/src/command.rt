@@ -28,6 +28,8 @@ pub enum Command<'a> {
     Generate(u64),
     /// Print the product as a file of format 2.
     Upgrade(&'a str),
+    /// Print both products as one, the chain of the pairs of their states.
+    Join(&'a str, &'a str),
     /// The changes of the reserves from the basis of the first file to that of the second, at these dates.
     Compare(&'a str, &'a str, u32),
 }
@@ -66,12 +68,18 @@ fn months_of(word: &str) -> Option<u32>
     }
 }
 
-// A command about a file at dates.
-fn three_words<'a>(command: &str, file: &'a str, every: &str) -> Option<Command<'a>>
-    ensures some { IfSome result (λ read. AreReadAs (command.now ∷ file.now ∷ every.now ∷ []) (request_of read)) }
-    ensures none { IfNone result (¬ HaveReading (command.now ∷ file.now ∷ every.now ∷ [])) }
+// A command about two files, or about a file at dates.
+fn three_words<'a>(command: &str, file: &'a str, last: &'a str) -> Option<Command<'a>>
+    ensures some { IfSome result (λ read. AreReadAs (command.now ∷ file.now ∷ last.now ∷ []) (request_of read)) }
+    ensures none { IfNone result (¬ HaveReading (command.now ∷ file.now ∷ last.now ∷ [])) }
 {
-    let Some(every) = months_of(every) else {
+    if command == "join" {
+        if file.is_empty() || last.is_empty() {
+            return None;
+        }
+        return Some(Command::Join(file, last));
+    }
+    let Some(every) = months_of(last) else {
         return None;
     };
     if file.is_empty() {

@@ -19,6 +19,7 @@ fn words_and_their_readings(rt: HostRuntime) {
         ("moments a 1", Some(Command::Moments("a", 1))),
         ("premium a", Some(Command::Premium("a"))),
         ("upgrade a", Some(Command::Upgrade("a"))),
+        ("join a b", Some(Command::Join("a", "b"))),
         ("compare a b 12", Some(Command::Compare("a", "b", 12))),
         ("generate 0", Some(Command::Generate(0))),
         (
@@ -35,6 +36,8 @@ fn words_and_their_readings(rt: HostRuntime) {
         ("reserves a 1x", None),
         ("moments  1", None),
         ("upgrade ", None),
+        ("join a ", None),
+        ("join a", None),
         ("compare a  1", None),
         ("compare a b 1201", None),
         ("compare a b", None),

@@ -2,6 +2,7 @@ pub mod Answered
 pub mod Causes
 pub mod Comparisons
 pub mod Growth
+pub mod JointFiles
 pub mod MonthGrids
 pub mod OneCase
 pub mod Premiums

@@ -20,6 +20,7 @@ status_of (end.NoPremium low) = 7
 status_of end.WriteFault = 8
 status_of end.Memory = 9
 status_of (end.Second cause) = 11
+status_of (end.Join broken) = 12
 status_of (end.Derived found) = 13
 status_of (end.Compare broken) = 16
 

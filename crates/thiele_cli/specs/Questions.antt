@@ -1,7 +1,7 @@
 -- What the commands ask, and of which files or seed.
 use Rattle.std.specs.Prelude.{◌≡◌, ◌⊎◌, ℕ, ◌<◌, List, ⊤}
 use Rattle.command_words.specs.Readings.{Request, Check, Value, Reserves, Occupancy, Moments, Premium, Generate}
-use Rattle.command_words.specs.Readings.{Upgrade, Compare, AreReadAs}
+use Rattle.command_words.specs.Readings.{Upgrade, Join, Compare, AreReadAs}
 use Rattle.thiele_cli.specs.declared.question.Question.{Question}
 use Rattle.thiele_cli.specs.declared.question.Question.TheVariants as question
 use Rattle.thiele_cli.specs.declared.pair_question.PairQuestion.{PairQuestion}
@@ -23,6 +23,7 @@ asked_of (Moments file every) = OfFile (question.Moments every) file
 asked_of (Premium file) = OfFile question.Premium file
 asked_of (Generate seed) = OfSeed seed
 asked_of (Upgrade file) = OfFile question.Upgraded file
+asked_of (Join first second) = OfFiles pair_question.Joined first second
 asked_of (Compare first second every) = OfFiles (pair_question.Changes every) first second
 
 -- dates that are asked for lie some months apart
@@ -37,6 +38,7 @@ HasDates question.Upgraded = ⊤
 
 -- and so do those that are asked for of two products
 abbrev pub HasDatesOfTwo : PairQuestion → Type 0
+HasDatesOfTwo pair_question.Joined = ⊤
 HasDatesOfTwo (pair_question.Changes every) = 0 < every
 
 -- some words are read as the request

@@ -22,6 +22,7 @@ refused_end refusal.Words = end.BadWords
 refused_end (refusal.First cause) = file_end cause
 refused_end (refusal.Second cause) = end.Second cause
 refused_end (refusal.Premium low) = end.NoPremium low
+refused_end (refusal.Join broken) = end.Join broken
 refused_end (refusal.Derived found) = end.Derived found
 refused_end (refusal.Compare broken) = end.Compare broken
 
@@ -46,5 +47,6 @@ line_of refusal.Words = codes "refused words\n"
 line_of (refusal.First cause) = codes "refused " ++ file_words cause ++ codes "\n"
 line_of (refusal.Second cause) = codes "refused second " ++ file_words cause ++ codes "\n"
 line_of (refusal.Premium low) = premium_line low
+line_of (refusal.Join broken) = codes "refused join part " ++ decimal broken.part ++ codes "\n"
 line_of (refusal.Derived found) = codes "refused derived " ++ rule_words found ++ codes "\n"
 line_of (refusal.Compare broken) = codes "refused compare part " ++ decimal broken.part ++ codes "\n"

@@ -32,6 +32,7 @@ use Rattle.thiele_cli.specs.Refusals.{refused_end, line_of}
 use Rattle.thiele_cli.specs.Premiums.{HasClosePremium}
 use Rattle.thiele_cli.specs.MonthGrids.{IsReserveReport}
 use Rattle.thiele_cli.specs.Comparisons.{AnswersComparison}
+use Rattle.thiele_cli.specs.JointFiles.{AnswersJoin}
 use Rattle.thiele_cli.specs.Cases.{Case, NoReading, Generated, FirstRefused, SecondRefused, Answered, AnsweredOfTwo}
 
 -- the end of a run with this answer, once its text is written
@@ -73,6 +74,7 @@ HasLine (refusal.First cause) = ⊤
 HasLine (refusal.Second cause) = ⊤
 HasLine (refusal.Premium low) = unsigned_abs low ≤ 2 ^ 100
 HasLine (refusal.Derived found) = ⊤
+HasLine (refusal.Join broken) = ⊤
 HasLine (refusal.Compare broken) = ⊤
 
 -- the answer has a text
@@ -122,6 +124,7 @@ AnswersQuestion question.Upgraded product given = IsUpgraded product given
 
 -- the answer to a question about two products that break no rule
 abbrev pub AnswersOfTwo : PairQuestion → (old new : Product) → Answer → Type 0
+AnswersOfTwo pair_question.Joined old new given = AnswersJoin old new given
 AnswersOfTwo (pair_question.Changes every) old new given = AnswersComparison old new every given
 
 -- the answer is a text that reads as the tree of the seed, and breaks no rule

@@ -106,6 +106,9 @@ pub fn command_answer<H: Shelf>(
         Command::Premium(name) => named_answer(alloc, Question::Premium, name, shelf),
         Command::Generate(seed) => Ok(seed_answer(alloc, seed)?),
         Command::Upgrade(name) => named_answer(alloc, Question::Upgraded, name, shelf),
+        Command::Join(first, second) => {
+            two_named_answer(alloc, PairQuestion::Joined, first, second, shelf)
+        }
         Command::Compare(first, second, every) => {
             two_named_answer(alloc, PairQuestion::Changes(every), first, second, shelf)
         }

@@ -4,6 +4,7 @@ ghost use Rattle.thiele_cli.specs.Ends.{status_of};
 
 use crate::file_break::FileBreak;
 use basis_compare::{Changes, CompareBreak};
+use joint_life::JoinBreak;
 use reserve_report::Report;
 use rule_breaks::RuleBreak;
 
@@ -30,6 +31,8 @@ pub enum End {
     Memory,
     /// The second file is refused by this cause.
     Second(FileBreak),
+    /// The two lives cannot be joined: this part is the first that is broken.
+    Join(JoinBreak),
     /// The product that is made of both files breaks this rule first.
     Derived(RuleBreak),
     /// The two bases first differ in this part.
@@ -52,6 +55,7 @@ impl End {
             End::WriteFault => 8,
             End::Memory => 9,
             End::Second(_) => 11,
+            End::Join(_) => 12,
             End::Derived(_) => 13,
             End::Compare(_) => 16,
         }

@@ -8,6 +8,7 @@ mod end;
 mod fault;
 mod fetching;
 mod file_break;
+mod joining;
 mod pair_question;
 mod pieces;
 mod question;

@@ -5,6 +5,7 @@ ghost use Rattle.thiele_cli.specs.Replies.{AnswersOfTwo, IsPrintable};
 
 use crate::answer::Answer;
 use crate::comparison::changes_answer;
+use crate::joining::joined_answer;
 use rate_bounds::Admitted;
 use std::alloc::{AllocError, Global};
 use std::marker::Brand;
@@ -14,6 +15,8 @@ use taylor_step::Steps;
 /// What is asked of two products.
 #[derive(Clone, Copy, Debug, PartialEq, Eq)]
 pub enum PairQuestion {
+    /// Both lives as one product, a file of format 2, by `join`.
+    Joined,
     /// The changes of the reserves from the first one's basis to the second one's, each so many months up to the term,
     /// by `compare`.
     Changes(u32),
@@ -36,6 +39,7 @@ fn counted_answer<L: Ledger>(
 {
     let mut steps = Steps::<L>::open(blank);
     match question {
+        PairQuestion::Joined => joined_answer(alloc, old, new),
         PairQuestion::Changes(every) => changes_answer(alloc, old, new, every, &mut steps),
     }
 }

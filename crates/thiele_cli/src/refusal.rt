@@ -8,6 +8,7 @@ use crate::file_break::{FileBreak, push_rule};
 use basis_compare::CompareBreak;
 use decimal_out::{push_millionths, push_whole};
 use fixed_num::scale_floor;
+use joint_life::JoinBreak;
 use rule_breaks::RuleBreak;
 use std::alloc::{AllocError, Global};
 
@@ -22,6 +23,8 @@ pub enum Refusal {
     Second(FileBreak),
     /// The value of the premium pattern is too small: its interval begins here, in units of 2^-64.
     Premium { low: i128 },
+    /// The two lives cannot be joined: this part is the first that is broken.
+    Join(JoinBreak),
     /// The product that is made of both files breaks this rule first.
     Derived(RuleBreak),
     /// The two bases first differ in this part.
@@ -81,6 +84,7 @@ impl Refusal {
             Refusal::First(FileBreak::Rule(found)) => End::Rule(found),
             Refusal::Second(cause) => End::Second(cause),
             Refusal::Premium { low } => End::NoPremium { low },
+            Refusal::Join(broken) => End::Join(broken),
             Refusal::Derived(found) => End::Derived(found),
             Refusal::Compare(broken) => End::Compare(broken),
         }
@@ -96,6 +100,7 @@ impl Refusal {
             Refusal::First(cause) => file_text(alloc, b"refused ", cause),
             Refusal::Second(cause) => file_text(alloc, b"refused second ", cause),
             Refusal::Premium { low } => premium_text(alloc, low),
+            Refusal::Join(broken) => part_text(alloc, b"refused join part ", broken.part),
             Refusal::Derived(found) => derived_text(alloc, found),
             Refusal::Compare(broken) => part_text(alloc, b"refused compare part ", broken.part),
         }

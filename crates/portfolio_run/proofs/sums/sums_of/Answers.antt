@@ -62,8 +62,8 @@ returns-in-Err-clause-err c =
     let file = slice_get_read c.args.valued.now (length c.args.valued.now) policy.file c.index-valued-policy.result refl
     place.file c.index-valued-policy.is in
     first_missing c.args.valued.now c.args.policies.now c.loop-i.i policy c.index-valued-policy.result
-    c.deref.result.now c.in-Err.missing c.part.result within c.index-policies-i.is c.loop-i.invariant.covered file c.deref.ensures.value
-    c.in-Err.ensures.err c.part.ensures
+    c.deref.result.now c.in-Err.missing c.part.result within c.index-policies-i.is c.loop-i.invariant.covered file
+    c.deref.ensures.value c.in-Err.ensures.err c.part.ensures
 
 pub loop-i-preserved : goal.loop-i-preserved
 loop-i-preserved c =
@@ -80,6 +80,6 @@ loop-i-preserved c =
     c.in-Ok-reserve.reserve) c.deref.ensures.value c.in-Ok-reserve.ensures.ok in
     let one_more = take_more c.args.policies.now c.loop-i.i policy within in
     let sums = sums_more c.args.valued.now (take c.loop-i.i c.args.policies.now) c.args.groups c.loop-i.sums.items
-    policy c.index-valued-policy.result c.in-Ok-reserve.reserve c.index.result.now c.with.result c.loop-i.invariant place file
-    reserve is c.with.ensures.lo c.with.ensures.hi c.with.ensures.tol in
+    policy c.index-valued-policy.result c.in-Ok-reserve.reserve c.index.result.now c.with.result c.loop-i.invariant
+    place file reserve is c.with.ensures.lo c.with.ensures.hi c.with.ensures.tol in
     rw (one_more, ← c.index-policies-i.is) sums
