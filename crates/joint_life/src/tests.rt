@@ -1,6 +1,7 @@
 // Files that are written out here. The chain of pairs is worked by hand.
 
 use crate::{JoinBreak, JoinError, join};
+use product_model::Product;
 use product_reader::read_product;
 use rate_bounds::{Admitted, admit};
 use std::alloc::Global;
@@ -69,10 +70,14 @@ fn part_of(alloc: Global, a: &str, b: &str) -> Result<Option<JoinBreak>, Fail> {
     }
 }
 
+// The joint record of two files.
+fn joined(alloc: Global, a: &str, b: &str) -> Result<Product, Fail> {
+    Ok(join(alloc, &admitted(alloc, a)?, &admitted(alloc, b)?)?)
+}
+
 #[test]
 fn two_lives_are_a_chain_of_four_pairs(rt: HostRuntime) -> Result<(), Fail> {
-    let (a, b) = (admitted(rt.alloc(), ANNUITY)?, admitted(rt.alloc(), LIFE)?);
-    let joint = join(rt.alloc(), &a, &b)?;
+    let joint = joined(rt.alloc(), ANNUITY, LIFE)?;
     assert_eq!(rt; joint.graph().states(), 4);
     assert_eq!(rt; joint.months(), 120);
     assert_eq!(rt; joint.transitions(), 4);
