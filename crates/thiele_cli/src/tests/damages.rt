@@ -59,7 +59,7 @@ fn a_damaged_file_is_refused_by_its_rule(rt: HostRuntime) -> Result<(), Fail> {
         ("[[sojourn]]", nested, "refused rule 1 place 11\n"),
     ] {
         assert!(rt;
-            said_of(alloc, flat_but(alloc, own, other)?)? == line.as_bytes(),
+            said_of(alloc, flat_but(alloc, own, other)?)?.as_slice() == line.as_bytes(),
             "{other}"
         );
     }
