@@ -12,8 +12,8 @@ enum kind { ALLOC, READ, WRITE };
 static const char *const refusal[] = {"FAIL_ALLOC", "FAIL_READ", "FAIL_WRITE"};
 static long made[3];
 
-/* The shell that starts the program loads this too, and is let alone. */
-static int is_program(void) { return strcmp(program_invocation_short_name, "program") == 0; }
+/* What starts the program may load this too, and is let alone. */
+static int is_program(void) { return strcmp(program_invocation_short_name, "thiele_cli") == 0; }
 
 static int is_refused(enum kind kind) {
     if (!is_program()) return 0;
@@ -22,8 +22,8 @@ static int is_refused(enum kind kind) {
 }
 
 #define REAL(name, type) \
-    static type real; \
-    if (!real) real = (type)dlsym(RTLD_NEXT, name)
+    static __typeof__(type) real; \
+    if (!real) real = (__typeof__(type))dlsym(RTLD_NEXT, name)
 
 void *malloc(size_t size) {
     REAL("malloc", void *(*)(size_t));
@@ -57,8 +57,10 @@ ssize_t write(int file, const void *bytes, size_t count) {
 
 __attribute__((destructor)) static void tell(void) {
     const char *name = getenv("COUNTS");
+    /* as the program left them: what follows allocates too */
+    long counts[] = {made[ALLOC], made[READ], made[WRITE]};
     FILE *out = name != NULL && is_program() ? fopen(name, "w") : NULL;
     if (out == NULL) return;
-    fprintf(out, "%ld %ld %ld\n", made[ALLOC], made[READ], made[WRITE]);
+    fprintf(out, "%ld %ld %ld\n", counts[ALLOC], counts[READ], counts[WRITE]);
     fclose(out);
 }

@@ -21,7 +21,8 @@ KINDS = ("FAIL_ALLOC", "FAIL_READ", "FAIL_WRITE")
 SMALL, LARGE = "examples/flat.toml", "examples/disability.toml"
 COMMANDS = [[word, file, *more] for file in (SMALL, LARGE)
             for word, *more in (["check"], ["value"], ["premium"], ["reserves", "60"], ["occupancy", "60"], ["moments", "60"])]
-COMMANDS += [["generate", "7"], ["no", "such", "words"]]
+COMMANDS += [["upgrade", LARGE], ["join", "examples/annuity-20-years.toml", "examples/annuity.toml"],
+             ["compare", LARGE, "examples/disability-new-basis.toml", "120"], ["generate", "7"], ["no", "such", "words"]]
 
 
 def run(words, **given):
