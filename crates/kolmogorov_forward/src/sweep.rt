@@ -14,6 +14,7 @@ use crate::month::month_over;
 use cell_coeffs::forward_system_for;
 use fixed_interval::Interval;
 use linear_system::CellSystem;
+use named_numbers::LEAST_DEGREE;
 use product_model::Product;
 use rate_bounds::Admitted;
 use std::alloc::{AllocError, Global};
@@ -24,9 +25,6 @@ use taylor_step::{Steps, Work};
 
 // A probability of 1, in units of 2^-64.
 const CERTAIN: i128 = 1 << 64;
-
-// The least degree that a step answers.
-const LEAST_DEGREE: u8 = 8;
 
 /// The probabilities of all states at a date, and what it takes to go on. Contracts see of which product it is, its
 /// date, and the greatest degree so far.

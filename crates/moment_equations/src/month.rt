@@ -8,14 +8,11 @@ ghost use Rattle.moment_equations.specs.NearMoments.{months_behind, AreNear, Are
 
 use cell_coeffs::{apply_first, apply_second, fill_moments};
 use linear_system::CellSystem;
-use named_numbers::CELLS_OF_MONTH;
+use named_numbers::{CELLS_OF_MONTH, LEAST_DEGREE};
 use payment_plan::Which;
 use rate_bounds::Admitted;
 use std::sync::ledger::Ledger;
 use taylor_step::{Steps, Work, step};
-
-// The least degree that a step answers.
-pub(crate) const LEAST_DEGREE: u8 = 8;
 
 // Adds the lumps of a month's end: to the second moments by the first ones before the lumps, and then to these. Takes
 // no memory.

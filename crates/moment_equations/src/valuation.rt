@@ -11,11 +11,12 @@ ghost use Rattle.moment_equations.specs.Results.{AreMoments};
 
 use crate::ends::Moment;
 use crate::equations::runs_obey_norberg;
-use crate::month::{LEAST_DEGREE, month_over};
+use crate::month::month_over;
 use crate::tables::keep_date;
 use cell_coeffs::moments_system_for;
 use fixed_interval::{MomentTable, Printed, Table};
 use linear_system::CellSystem;
+use named_numbers::LEAST_DEGREE;
 use rate_bounds::Admitted;
 use std::alloc::{AllocError, Global};
 use std::sync::ledger::Ledger;

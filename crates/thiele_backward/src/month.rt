@@ -10,14 +10,11 @@ ghost use Rattle.thiele_backward.specs.MonthRuns.{IsNearAt, IsNearLumped, HasSom
 
 use cell_coeffs::{Job, apply_first, fill};
 use linear_system::CellSystem;
-use named_numbers::CELLS_OF_MONTH;
+use named_numbers::{CELLS_OF_MONTH, LEAST_DEGREE};
 use payment_plan::Which;
 use rate_bounds::Admitted;
 use std::sync::ledger::Ledger;
 use taylor_step::{Steps, Work, step};
-
-// The least degree that a step answers.
-pub(crate) const LEAST_DEGREE: u8 = 8;
 
 // Goes back over the cells of a month, the last one first, and answers the greatest degree of its steps. Takes no
 // memory.

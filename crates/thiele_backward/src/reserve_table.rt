@@ -9,9 +9,9 @@ ghost use Rattle.thiele_backward.specs.Results.{AreReserves, HoldAroundReserves,
 ghost use Rattle.thiele_backward.specs.Dates.{SweepsReserves, HasDate, KeepsRowsFrom};
 
 use crate::equations::runs_obey_thiele;
-use crate::month::LEAST_DEGREE;
 use crate::sweep::Sweep;
 use fixed_interval::{Printed, Table};
+use named_numbers::LEAST_DEGREE;
 use payment_plan::Which;
 use rate_bounds::Admitted;
 use std::alloc::{AllocError, Global};

@@ -16,10 +16,11 @@ ghost use Rattle.thiele_backward.specs.MonthRuns.{IsNearAt, HasSome};
 ghost use Rattle.thiele_backward.specs.Sweeps.{begun_sweep, at_term, month_earlier, plan_in, IsStart, values_from};
 ghost use Rattle.thiele_backward.specs.Sweeps.{spare_of, width_of};
 
-use crate::month::{LEAST_DEGREE, month_over};
+use crate::month::month_over;
 use cell_coeffs::{Job, lump_of, system_for};
 use fixed_interval::Interval;
 use linear_system::CellSystem;
+use named_numbers::LEAST_DEGREE;
 use payment_plan::Which;
 use product_model::Product;
 use rate_bounds::Admitted;

@@ -8,9 +8,9 @@ ghost use Rattle.rate_bounds.specs.MonthPay.{plan_named};
 ghost use Rattle.thiele_backward.specs.Results.{IsValueAtIssue, AreConstantMonths};
 
 use crate::equations::runs_obey_thiele;
-use crate::month::LEAST_DEGREE;
 use crate::sweep::Sweep;
 use fixed_interval::Valued;
+use named_numbers::LEAST_DEGREE;
 use payment_plan::Which;
 use rate_bounds::Admitted;
 use std::alloc::{AllocError, Global};
