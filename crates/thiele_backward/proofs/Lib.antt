@@ -8,3 +8,4 @@ pub mod KeptRuns
 pub mod Enclosed
 pub mod SweptTerms
 pub mod WrittenDates
+pub mod ConstantMonths

@@ -1,4 +1,5 @@
 pub mod Dates
+pub mod MonthMaps
 pub mod MonthRuns
 pub mod Results
 pub mod Sweeps
