@@ -1,4 +1,5 @@
 pub mod Bases
 pub mod Changes
 pub mod ChangesText
+pub mod Costs
 pub mod Differences

@@ -5,6 +5,7 @@ ghost use Rattle.named_numbers.specs.Numbers.{cells_of_month};
 ghost use Rattle.basis_compare.specs.Bases.{hybrid_of, first_difference};
 ghost use Rattle.basis_compare.specs.Changes.{AreChanges};
 ghost use Rattle.basis_compare.specs.ChangesText.{HaveText};
+ghost use Rattle.basis_compare.specs.Costs.{reserves_cost};
 
 use crate::change_rows::Changes;
 use crate::differences::rows_of;
@@ -16,8 +17,8 @@ use taylor_step::Steps;
 use thiele_backward::reserves;
 
 /// The change of each reserve from basis A to basis B at the dates 0, `every`, 2 `every` and so on, up to the term: the
-/// step of the interest from A to the hybrid H, the rest from H to B, and the total. It takes 32 steps a month for each
-/// of the three, and memory for all rows.
+/// step of the interest from A to the hybrid H, the rest from H to B, and the total. It takes the steps of the three
+/// tables of reserves, and memory for all rows.
 pub fn compare<L: Ledger>(
     alloc: Global,
     a: &Admitted,
@@ -34,8 +35,10 @@ pub fn compare<L: Ledger>(
     // Each interval holds the exact change from the answered degree on, and each turn says its order.
     ensures changes { IfOk result (AreChanges a.now b.now every) }
     ensures text { IfOk result (HaveText a.now) }
-    ensures count { OnOk result (steps.new ≡ steps.old + 3 * (cells_of_month * a.now.months)) }
-    ensures count_at_most { steps.new ≤ steps.old + 3 * (cells_of_month * a.now.months) }
+    ensures count { OnOk result (steps.new
+        ≡ steps.old + reserves_cost a.now + reserves_cost h.now + reserves_cost b.now) }
+    ensures count_at_most { steps.new
+        ≤ steps.old + reserves_cost a.now + reserves_cost h.now + reserves_cost b.now }
 {
     // An admitted product has a state.
     let _product = a.product();

@@ -104,8 +104,8 @@ impl Policies {
         )
     }
 
-    /// Values the first file that is not valued yet, by its product. It takes 32 steps a month, and memory for the
-    /// reserves of all months. Where it fails, the file is not valued, but steps may have been made.
+    /// Values the first file that is not valued yet, by its product. It takes the steps of its reserves, and memory
+    /// for those of all months. Where it fails, the file is not valued, but steps may have been made.
     pub fn value_next<L: Ledger>(
         &mut self,
         adm: &Admitted,

@@ -118,7 +118,7 @@ fn place_in(names: &[Vec<u8>], name: &[u8]) -> usize
 }
 
 impl ValuedFile {
-    /// Takes the reserves of every month. It takes 32 steps a month.
+    /// Takes the reserves of every month. It takes at most 32 steps a month.
     pub fn value<L: Ledger>(
         alloc: Global,
         adm: &Admitted,

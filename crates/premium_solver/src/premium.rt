@@ -3,6 +3,7 @@
 ghost use Rattle.std.specs.Prelude.{◌≡◌, ◌≢◌, ℕ, ◌+◌, ◌*◌, ◌^◌, ◌<◌, ◌≤◌, max, ℤ, IfOk, IfErr};
 ghost use Rattle.named_numbers.specs.Numbers.{cells_of_month, least_degree, highest_degree};
 ghost use Rattle.model_specs.specs.Payments.{payment_plan, pattern_plan};
+ghost use Rattle.model_specs.specs.Stretches.{cost};
 ghost use Rattle.thiele_backward.specs.Results.{IsValueAtIssue, AreConstantMonths};
 ghost use Rattle.premium_solver.specs.Premiums.{IsPremiumTable, IsTooSmall, IsLargePattern};
 
@@ -66,7 +67,7 @@ fn table_of(adm: &Admitted, benefits: &Valued, pattern: &Valued) -> Result<Premi
 }
 
 /// The premium that makes the value of the pattern that of the benefits. It refuses a pattern whose value may be below
-/// 1/32. It takes 32 steps a month and plan, and memory for one month alone, however long the term.
+/// 1/32. It takes the steps of the values of both plans, and the memory of one value after the other.
 pub fn solve<L: Ledger>(
     alloc: Global,
     adm: &Admitted,
@@ -84,8 +85,9 @@ pub fn solve<L: Ledger>(
 
     // Want of memory may come before the second plan.
     ensures count { result ≢ Err PremiumError.Memory
-        → steps.new ≡ steps.old + 2 * (cells_of_month * adm.now.months) }
-    ensures count_at_most { steps.new ≤ steps.old + 2 * (cells_of_month * adm.now.months) }
+        → steps.new ≡ steps.old + cost adm.now (payment_plan adm.now) + cost adm.now (pattern_plan adm.now) }
+    ensures count_at_most { steps.new
+        ≤ steps.old + cost adm.now (payment_plan adm.now) + cost adm.now (pattern_plan adm.now) }
 {
     let benefits = value(alloc, adm, Which::Benefits, steps)?;
     let pattern = value(alloc, adm, Which::Pattern, steps)?;

@@ -9,3 +9,5 @@ pub mod Enclosed
 pub mod SweptTerms
 pub mod WrittenDates
 pub mod ConstantMonths
+pub mod StretchMaps
+pub mod StepCounts

@@ -12,6 +12,7 @@ use Rattle.moment_laws.specs.RunsFrom.{first_from}
 use Rattle.rate_bounds.specs.MonthPay.{plan_named}
 use Rattle.cell_coeffs.specs.Rows.{IsMadeForFirst}
 use Rattle.thiele_backward.specs.MonthRuns.{AreWithin, IsNearAt, HasSome}
+use Rattle.thiele_backward.specs.StretchMaps.{MapsOfPlan}
 
 -- where a sweep began: at a date, before its lumps, with a number for each state, in units of 2^-64 at the plan's scale
 pub record Beginning : Type 0 where
@@ -94,3 +95,9 @@ pub record KeepsRuns (s : BackwardSweep) (g rad : ℕ) (system : StoredSystem) (
   pub start : HasSome (IsStart s)
   pub near : (n : ℕ) (v : Vector) → s.degree ≤ n → IsStart s v
       → AreWithin s.product (plan_in s) (rad - spare_units s) (values_from s n v) mid
+
+-- what a sweep keeps with the maps of its months
+pub record KeepsSweep (s : BackwardSweep) (g rad : ℕ) (system : StoredSystem) (work : ℕ) (mid : List ℤ)
+    (maps : MapsOfPlan) : Type 0 where
+  pub runs : KeepsRuns s g rad system work mid
+  pub maps_are : maps ≡ record { product = s.product; which = s.which }

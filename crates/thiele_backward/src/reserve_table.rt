@@ -3,11 +3,14 @@
 ghost use Rattle.std.specs.Prelude.{◌≡◌, ℕ, ◌+◌, ◌*◌, ◌/◌, ◌^◌, ◌<◌, ◌≤◌, IfOk, OnErr, length};
 ghost use Rattle.named_numbers.specs.Numbers.{cells_of_month, least_degree};
 ghost use Rattle.model_specs.specs.Payments.{payment_plan};
+ghost use Rattle.model_specs.specs.Stretches.{cost};
 ghost use Rattle.limit_laws.specs.Modulus.{ReservesConverge};
 ghost use Rattle.limit_laws.specs.Defect.{NearlySolvesThiele};
 ghost use Rattle.thiele_backward.specs.Results.{AreReserves, HoldAroundReserves, AreConstantMonths};
 ghost use Rattle.thiele_backward.specs.Dates.{SweepsReserves, HasDate, KeepsRowsFrom};
+ghost use Rattle.thiele_backward.specs.StretchMaps.{RisesAtMost};
 
+use crate::costs::cost_splits;
 use crate::equations::runs_obey_thiele;
 use crate::sweep::Sweep;
 use fixed_interval::{Printed, Table};
@@ -51,7 +54,8 @@ fn keep_date(cells: &mut [Printed], every: u32, states: usize, sweep: &Sweep)
 }
 
 /// The reserves of all states at the dates 0, `every`, 2 `every` and so on, up to the term, each without the lump of
-/// its date. It takes 32 steps a month, and memory for the table and one month before the first step.
+/// its date. It takes as many steps as there are states and one for each stretch of months in which nothing varies, 32
+/// for each other month, and memory for the table, a month and the maps of the stretches.
 pub fn reserves<L: Ledger>(
     alloc: Global,
     adm: &Admitted,
@@ -71,11 +75,13 @@ pub fn reserves<L: Ledger>(
     // date, and the run of degree n solves Thiele's equation in each cell but for a defect of at most 8^-n.
     ensures modulus { ReservesConverge adm.now (payment_plan adm.now) }
     ensures defect { NearlySolvesThiele adm.now (payment_plan adm.now) }
-    ensures count { IfOk result (λ table. steps.new ≡ steps.old + cells_of_month * adm.now.months) }
-    ensures refused { OnErr result (steps.new ≡ steps.old) }
+    ensures count { IfOk result (λ table. steps.new ≡ steps.old + cost adm.now (payment_plan adm.now)) }
+    ensures refused { OnErr result (RisesAtMost steps.old (cost adm.now (payment_plan adm.now)) steps.new) }
+    ensures count_at_most { steps.new ≤ steps.old + cells_of_month * adm.now.months }
 {
     runs_obey_thiele(adm, Which::Benefits);
-    let mut sweep = Sweep::prepare(alloc, adm, Which::Benefits)?;
+    cost_splits(adm, Which::Benefits);
+    let mut sweep = Sweep::prepare(alloc, adm, Which::Benefits, steps)?;
     let states = adm.product().graph().states();
     let months = adm.product().months();
     let mut cells = vec![in alloc; NOTHING; (months / every + 1) as usize * states]?;

@@ -1,9 +1,9 @@
 //! Sweeps.
 
-ghost use Rattle.std.specs.Prelude.{◌≡◌, ℕ, ◌+◌, ◌-◌, ◌^◌, ◌<◌, ◌≤◌, pos, ◌+ℤ◌, ◌*ℤ◌, IfOk, length, IsTrue};
+ghost use Rattle.std.specs.Prelude.{◌≡◌, ℕ, ◌+◌, ◌-◌, ◌^◌, ◌<◌, ◌≤◌, pos, ◌+ℤ◌, ◌*ℤ◌, IfOk, OnErr, length, IsTrue};
 ghost use Rattle.std.specs.Prelude.{unsigned_abs};
 ghost use Rattle.std.specs.Prelude.{slice_index_or, replicate};
-ghost use Rattle.named_numbers.specs.Numbers.{cells_of_month, least_degree, highest_degree};
+ghost use Rattle.named_numbers.specs.Numbers.{least_degree, highest_degree};
 ghost use Rattle.frac_laws.specs.Fraction.{whole, ◌+ℚ◌};
 ghost use Rattle.frac_laws.specs.Lists.{Vector, number_at};
 ghost use Rattle.model_specs.specs.Ledgers.{radius};
@@ -12,11 +12,15 @@ ghost use Rattle.model_specs.specs.Runs.{reserve};
 ghost use Rattle.model_specs.specs.Stretches.{is_constant_month};
 ghost use Rattle.fixed_interval.specs.Intervals.{LiesInside, HasEndsUpTo};
 ghost use Rattle.rate_bounds.specs.MonthPay.{plan_named};
+ghost use Rattle.constant_months.specs.Costs.{cell_steps};
+ghost use Rattle.thiele_backward.specs.Costs.{maps_cost};
 ghost use Rattle.thiele_backward.specs.MonthRuns.{IsNearAt, HasSome};
+ghost use Rattle.thiele_backward.specs.StretchMaps.{RisesAtMost};
 ghost use Rattle.thiele_backward.specs.Sweeps.{begun_sweep, at_term, month_earlier, plan_in, IsStart, values_from};
 ghost use Rattle.thiele_backward.specs.Sweeps.{spare_of, width_of};
 
 use crate::month::month_over;
+use crate::stretch_maps::StretchMaps;
 use cell_coeffs::{Job, lump_of, system_for};
 use fixed_interval::Interval;
 use linear_system::CellSystem;
@@ -54,13 +58,14 @@ pub struct Sweep {
     degree: u8,
     scale: u32,
     radius: u128,
+    maps: StretchMaps,
     system: CellSystem,
     work: Work,
     mid: Vec<i128>,
 }
 
 impl Model for Sweep {
-    ghost use Rattle.thiele_backward.specs.Sweeps.{BackwardSweep, KeepsRuns};
+    ghost use Rattle.thiele_backward.specs.Sweeps.{BackwardSweep, KeepsSweep};
 
     ghost Value = { BackwardSweep };
 
@@ -72,42 +77,59 @@ impl Model for Sweep {
       degree = s.degree;
     } };
 
-    ghost invariant = { λ s. KeepsRuns (record {
+    ghost invariant = { λ s. KeepsSweep (record {
       product = s.product.value;
       which = s.which;
       begun = record { months_left = s.begun_at.value; numbers = s.begun_from.value.items };
       months_left = s.months_left;
       degree = s.degree;
-    }) s.scale s.radius s.system s.work s.mid.items };
+    }) s.scale s.radius s.system s.work s.mid.items s.maps };
 }
 
 impl Sweep {
-    /// Begins at the term, where all values are 0. From here on each month of the term is gone back without memory.
-    pub fn prepare(alloc: Global, adm: &Admitted, which: Which) -> Result<Sweep, AllocError>
-        ensures { IfOk result (λ s. s ≡ begun_sweep adm.now which (at_term adm.now)) }
+    /// Begins at the term, where all values are 0, and makes the maps of the months in which nothing varies, from as many
+    /// steps as there are states and one for each stretch of them. From here on each month of the term is gone back
+    /// without memory.
+    pub fn prepare<L: Ledger>(
+        alloc: Global,
+        adm: &Admitted,
+        which: Which,
+        steps: &mut Steps<L>,
+    ) -> Result<Sweep, AllocError>
+        requires count { steps.old + maps_cost adm.now (plan_named which adm.now) < 2 ^ 63 }
+        ensures begun { IfOk result (λ s. s ≡ begun_sweep adm.now which (at_term adm.now)) }
+        ensures count { IfOk result (λ s. steps.new ≡ steps.old + maps_cost adm.now (plan_named which adm.now)) }
+        ensures refused { OnErr result
+            (RisesAtMost steps.old (maps_cost adm.now (plan_named which adm.now)) steps.new) }
     {
         let product = adm.product();
         let zeros = zeros(alloc, product.graph().states())?;
-        Sweep::begin(alloc, adm, which, product.months(), zeros)
+        Sweep::begin(alloc, adm, which, product.months(), zeros, steps)
     }
 
     // Begins at a date from numbers that are within the radius there, in units of 2^-64 at the plan's scale.
-    fn begin(
+    fn begin<L: Ledger>(
         alloc: Global,
         adm: &Admitted,
         which: Which,
         months_left: u32,
         mid: Vec<i128>,
+        steps: &mut Steps<L>,
     ) -> Result<Sweep, AllocError>
         requires date { months_left ≤ adm.now.months }
         requires numbers { length mid.items ≡ length adm.now.states }
         requires start { HasSome (IsNearAt adm.now (plan_named which adm.now) months_left mid.items) }
-        ensures { IfOk result (λ s. s
+        requires count { steps.old + maps_cost adm.now (plan_named which adm.now) < 2 ^ 63 }
+        ensures begun { IfOk result (λ s. s
             ≡ begun_sweep adm.now which (record { months_left = months_left; numbers = mid.items })) }
+        ensures count { IfOk result (λ s. steps.new ≡ steps.old + maps_cost adm.now (plan_named which adm.now)) }
+        ensures refused { OnErr result
+            (RisesAtMost steps.old (maps_cost adm.now (plan_named which adm.now)) steps.new) }
     {
         let product = adm.product();
-        let system = system_for(alloc, product, Job::First(which))?;
-        let work = Work::new(alloc, product.graph().states())?;
+        let mut system = system_for(alloc, product, Job::First(which))?;
+        let mut work = Work::new(alloc, product.graph().states())?;
+        let maps = StretchMaps::make(alloc, adm, which, &mut system, &mut work, steps)?;
         let valued = Snapshot::of(product);
         let begun_at = Snapshot::of(&months_left);
         let begun_from = Snapshot::of(&mid);
@@ -122,6 +144,7 @@ impl Sweep {
             degree: LEAST_DEGREE,
             scale,
             radius,
+            maps,
             system,
             work,
             mid,
@@ -135,17 +158,20 @@ impl Sweep {
         self.months_left
     }
 
-    /// Adds the lumps of the date, and goes back one month, by a step for each of its 32 cells. Takes no memory.
+    /// Adds the lumps of the date, and goes back one month: by its map and without a step where nothing varies, and else
+    /// by a step for each of its 32 cells. Takes no memory.
     pub fn month_back<L: Ledger>(&mut self, adm: &Admitted, steps: &mut Steps<L>) -> MonthRow
         requires left { 0 < self.old.months_left }
         requires product { adm.now ≡ self.old.product }
-        requires count { steps.old + cells_of_month < 2 ^ 63 }
+        requires count { steps.old
+            + cell_steps self.old.product (plan_in self.old) (self.old.months_left - 1) < 2 ^ 63 }
         ensures earlier { self.new ≡ month_earlier self.old result.degree }
         ensures month { result.month ≡ self.new.months_left }
         ensures radius { result.radius ≡ radius self.old.product result.month }
         ensures least { least_degree ≤ result.degree }
         ensures highest { result.degree ≤ highest_degree }
-        ensures count { steps.new ≡ steps.old + cells_of_month }
+        ensures count { steps.new
+            ≡ steps.old + cell_steps self.old.product (plan_in self.old) (self.old.months_left - 1) }
 
         // Where all rates and payments of the plan are constant over the month.
         ensures constant { IsTrue (is_constant_month self.old.product (plan_in self.old) (self.old.months_left - 1))
@@ -156,6 +182,7 @@ impl Sweep {
             adm,
             self.which,
             month,
+            self.maps.at(month),
             &mut self.system,
             &mut self.mid,
             &mut self.work,

@@ -6,9 +6,10 @@ use Rattle.thiele_backward.proofs.valuation.value.Goals as goal
 
 pub loop-month-init : goal.loop-month-init
 loop-month-init g c = record {
-  swept = subst (λ s. IsSwept c.args.adm.now c.args.which 0 least_degree s) (sym c.in_ok-sweep.ensures)
+  swept = subst (λ s. IsSwept c.args.adm.now c.args.which 0 least_degree s) (sym c.in_ok-sweep.ensures.begun)
       (swept_none c.args.adm.now c.args.which);
-  count = omega arith;
+  count = ap (λ k. c.prepare.new.steps + cells_cost c.args.adm.now (plan_named c.args.which c.args.adm.now) k)
+      (ap (λ (s : BackwardSweep). s.months_left) c.in_ok-sweep.ensures.begun);
 }
 
 pub loop-month-preserved : goal.loop-month-preserved
@@ -26,7 +27,7 @@ loop-month-preserved g c =
           (sym c.month_back-row.ensures.earlier)
           (subst (λ d. IsSwept c.args.adm.now c.args.which (c.loop-month._month + 1) d
           (month_earlier c.loop-month.sweep row.degree)) (sym c.max-degree.ensures) more);
-      count = omega (arith, c.month_back-row.ensures.count, c.loop-month.invariant.count);
+      count = counted;
     }
 
 pub returns-clause-value : goal.returns-clause-value

@@ -17,10 +17,10 @@ units_of-units-requires c =
     let inside = subst (λ (s : BackwardSweep). c.args.state < length s.product.states) (sym c.self.view_is)
     c.requires.state in
     let product_is = c.requires.product ∙ sym (ap (λ (s : BackwardSweep). s.product) c.self.view_is) in
-    let lump_is = c.lump_of.ensures ∙ state_lump _ _ _ _ _ _ c.self.invariant c.args.state inside c.plan.result.now
+    let lump_is = c.lump_of.ensures ∙ state_lump _ _ _ _ _ _ c.self.invariant.runs c.args.state inside c.plan.result.now
     c.lumps_at-lumps.result.now (c.plan.ensures.payments ∙ ap payments_of (c.product.ensures.product ∙ product_is))
     c.lumps_at-lumps.ensures in
-    simp to_z-of_z (rw lump_is (state_lump_small _ _ _ _ _ _ c.self.invariant c.args.state inside))
+    simp to_z-of_z (rw lump_is (state_lump_small _ _ _ _ _ _ c.self.invariant.runs c.args.state inside))
 
 pub returns-clause-values : goal.returns-clause-values
 returns-clause-values c = λ n v from start.
@@ -31,7 +31,7 @@ returns-clause-values c = λ n v from start.
     c.requires.state in
     let product_is = c.requires.product ∙ sym (ap (λ (s : BackwardSweep). s.product) c.self.view_is) in
     let lump_is : c.lump_of.result ≡ l =
-    c.lump_of.ensures ∙ state_lump _ _ _ _ _ _ c.self.invariant c.args.state inside c.plan.result.now
+    c.lump_of.ensures ∙ state_lump _ _ _ _ _ _ c.self.invariant.runs c.args.state inside c.plan.result.now
     c.lumps_at-lumps.result.now (c.plan.ensures.payments ∙ ap payments_of (c.product.ensures.product ∙ product_is))
     c.lumps_at-lumps.ensures
     ∙ ap (λ (s : BackwardSweep). lump_at (plan_in s) s.months_left c.args.state) c.self.view_is in
@@ -53,7 +53,7 @@ returns-clause-reserves c = λ is n from.
     c.requires.state in
     let product_is = c.requires.product ∙ sym (ap (λ (s : BackwardSweep). s.product) c.self.view_is) in
     let lump_is : c.lump_of.result ≡ l =
-    c.lump_of.ensures ∙ state_lump _ _ _ _ _ _ c.self.invariant c.args.state inside c.plan.result.now
+    c.lump_of.ensures ∙ state_lump _ _ _ _ _ _ c.self.invariant.runs c.args.state inside c.plan.result.now
     c.lumps_at-lumps.result.now (c.plan.ensures.payments ∙ ap payments_of (c.product.ensures.product ∙ product_is))
     c.lumps_at-lumps.ensures
     ∙ ap (λ (s : BackwardSweep). lump_at (plan_in s) s.months_left c.args.state) c.self.view_is in

@@ -9,22 +9,22 @@ month_over-degree-requires-clause-month g c =
     rw (ap (λ (s : BackwardSweep). s.months_left) c.self.view_is) c.requires.left in
     let product_is = c.requires.product ∙ sym (ap (λ (s : BackwardSweep). s.product) c.self.view_is) in
     rw product_is
-    (month_inside _ _ _ _ _ _ c.self.invariant (c.self.inside.months_left - 1) (omega (arith, left)))
+    (month_inside _ _ _ _ _ _ c.self.invariant.runs (c.self.inside.months_left - 1) (omega (arith, left)))
 
 pub month_over-degree-requires-clause-made : goal.month_over-degree-requires-clause-made
 month_over-degree-requires-clause-made g c =
     let product_is = c.requires.product ∙ sym (ap (λ (s : BackwardSweep). s.product) c.self.view_is) in
-    rw product_is c.self.invariant.made
+    rw product_is c.self.invariant.runs.made
 
 pub month_over-degree-requires-clause-mid : goal.month_over-degree-requires-clause-mid
 month_over-degree-requires-clause-mid g c =
     let product_is = c.requires.product ∙ sym (ap (λ (s : BackwardSweep). s.product) c.self.view_is) in
-    rw (product_is, c.deref_mut.ensures.value) c.self.invariant.long
+    rw (product_is, c.deref_mut.ensures.value) c.self.invariant.runs.long
 
 pub month_over-degree-requires-clause-work : goal.month_over-degree-requires-clause-work
 month_over-degree-requires-clause-work g c =
     let product_is = c.requires.product ∙ sym (ap (λ (s : BackwardSweep). s.product) c.self.view_is) in
-    rw product_is c.self.invariant.room
+    rw product_is c.self.invariant.runs.room
 
 pub month_over-degree-requires-clause-some : goal.month_over-degree-requires-clause-some
 month_over-degree-requires-clause-some g c =
@@ -32,7 +32,7 @@ month_over-degree-requires-clause-some g c =
     rw (ap (λ (s : BackwardSweep). s.months_left) c.self.view_is) c.requires.left in
     let product_is = c.requires.product ∙ sym (ap (λ (s : BackwardSweep). s.product) c.self.view_is) in
     rw (product_is, c.deref_mut.ensures.value)
-    (some_near _ _ _ _ _ _ c.self.invariant (c.self.inside.months_left - 1) (omega (arith, left)))
+    (some_near _ _ _ _ _ _ c.self.invariant.runs (c.self.inside.months_left - 1) (omega (arith, left)))
 
 pub invariant_of-self : goal.invariant_of-self
 invariant_of-self g c =
@@ -41,7 +41,7 @@ invariant_of-self g c =
     let product_is = c.requires.product ∙ sym (ap (λ (s : BackwardSweep). s.product) c.self.view_is) in
     keeps_written _ _ _ _ _ _ c.month_over-degree.new.mid c.self.inside.mid.items
     (c.month_over-degree.auto.mid ∙ c.deref_mut.ensures.len)
-    (keeps_month_of _ _ _ _ _ _ c.self.invariant (c.self.inside.months_left - 1) (omega (arith, left))
+    (keeps_month_of _ _ _ _ _ _ c.self.invariant.runs (c.self.inside.months_left - 1) (omega (arith, left))
     c.args.adm.now c.deref_mut.result.now product_is c.deref_mut.ensures.value c.month_over-degree.result
     c.max-self-inside.result
     c.radius-radius.result c.month_over-degree.new.work c.month_over-degree.new.system c.month_over-degree.new.mid

@@ -1,0 +1,119 @@
+-- Counts of steps over months.
+use Rattle.std.specs.Prelude.{◌≡◌, ℕ, zero, suc, ◌+◌, ◌-◌, ◌*◌, ◌^◌, ◌<◌, ◌≤◌, Bool, true, false, IsTrue}
+use Rattle.std.specs.Prelude.{if◌then◌else◌, length}
+use Rattle.std.proofs.Common.{refl, ap, ◌∙◌, arith, inl, inr}
+use mathlib.Core.Path.{ap₂}
+use Rattle.std.proofs.lemmas.Bool.{cases_lt}
+use Rattle.named_numbers.specs.Numbers.{cells_of_month}
+use Rattle.model_specs.specs.Product.{Product}
+use Rattle.model_specs.specs.Payments.{Plan}
+use Rattle.model_specs.specs.Stretches.{cost, is_constant_month, continues_stretch}
+use Rattle.payment_plan.specs.declared.pattern.Which.{Which}
+use Rattle.rate_bounds.specs.MonthPay.{plan_named}
+use Rattle.constant_months.specs.Costs.{map_steps, cell_steps, steps_to}
+use Rattle.thiele_backward.specs.Costs.{maps_cost, cells_cost}
+use Rattle.thiele_backward.specs.StretchMaps.{RisesAtMost}
+use Rattle.thiele_backward.specs.Sweeps.{BackwardSweep, plan_in}
+use Rattle.thiele_backward.proofs.SweptTerms.{IsSwept}
+
+-- ---- the steps of a month
+
+module _ (product : Product) (plan : Plan) (month : ℕ) where
+  -- those of its map: none where something varies, none where it goes on with its stretch
+  pub no_map_steps : is_constant_month product plan month ≡ false → map_steps product plan month ≡ 0
+  no_map_steps varies = ap (λ (b : Bool). if b
+      then (if continues_stretch product plan month then 0 else length product.states + 1) else 0) varies
+
+  pub steps_of_goes_on : IsTrue (is_constant_month product plan month) → IsTrue (continues_stretch product plan month)
+      → map_steps product plan month ≡ 0
+  steps_of_goes_on constant goes_on = ap₂ (λ (a b : Bool). if a then (if b then 0 else length product.states + 1) else 0)
+      constant goes_on
+
+  pub steps_of_begins : IsTrue (is_constant_month product plan month) → continues_stretch product plan month ≡ false
+      → map_steps product plan month ≡ length product.states + 1
+  steps_of_begins constant begins = ap₂ (λ (a b : Bool). if a then (if b then 0 else length product.states + 1) else 0)
+      constant begins
+
+  -- those of its cells
+  pub no_cell_steps : IsTrue (is_constant_month product plan month) → cell_steps product plan month ≡ 0
+  no_cell_steps constant = ap (λ (b : Bool). if b then 0 else cells_of_month) constant
+
+  pub steps_of_cells : is_constant_month product plan month ≡ false → cell_steps product plan month ≡ cells_of_month
+  steps_of_cells varies = ap (λ (b : Bool). if b then 0 else cells_of_month) varies
+
+-- ---- sums of steps
+
+-- more months take no fewer steps
+pub steps_grow : (steps : ℕ → ℕ) (m n : ℕ) → m ≤ n → steps_to steps m ≤ steps_to steps n
+steps_grow steps m zero few =
+    let none : m ≡ 0 = omega (arith, few) in
+    rw none (omega arith)
+steps_grow steps m (suc n) few = elim (cases_lt m (suc n)) [
+  | inl b ↦ omega (arith, steps_grow steps m n (omega (arith, b)))
+  | inr past ↦
+      let same : m ≡ suc n = omega (arith, few, past) in
+      rw same (omega arith)
+]
+
+-- the steps of the last of some months
+pub steps_last : (steps : ℕ → ℕ) (months : ℕ) → 0 < months
+    → steps_to steps months ≡ steps_to steps (months - 1) + steps (months - 1)
+steps_last steps zero some = absurd (omega (arith, some))
+steps_last steps (suc months) some =
+    let one_less : suc months - 1 ≡ months = omega arith in
+    rw one_less refl
+
+-- what a valuation's cost is made of
+pub record CostIs (product : Product) (plan : Plan) : Type 0 where
+  pub split : cost product plan ≡ maps_cost product plan + cells_cost product plan product.months
+  pub few : cost product plan ≤ cells_of_month * product.months
+
+-- a refusal before the first month
+pub refused_early : (product : Product) (plan : Plan) (old new : ℕ) → CostIs product plan
+    → RisesAtMost old (maps_cost product plan) new → RisesAtMost old (cost product plan) new
+refused_early product plan old new is rises = record {
+  least = rises.least;
+  most = omega (arith, rises.most, is.split);
+}
+
+-- a sweep from the term, with its steps
+module _ (product : Product) (which : Which) (is : CostIs product (plan_named which product)) (done degree : ℕ)
+    (s : BackwardSweep) (swept : IsSwept product which done degree s) (old begun : ℕ)
+    (made : begun ≡ old + maps_cost product (plan_named which product))
+    (room : old + cells_of_month * product.months < 2 ^ 63) where
+  abbrev plan : Plan
+  plan = plan_named which product
+
+  -- the steps so far and those of the months that are left
+  abbrev pub HasSteps : ℕ → ℕ → Type 0
+  HasSteps steps left = steps + cells_cost product plan left ≡ begun + cells_cost product plan product.months
+
+  pub steps_here : cell_steps s.product (plan_in s) (s.months_left - 1) ≡ cell_steps product plan (s.months_left - 1)
+  steps_here =
+      let steps : Product → Which → ℕ = λ p w. cell_steps p (plan_named w p) (s.months_left - 1) in
+      ap (λ p. steps p s.which) swept.product_is ∙ ap (λ w. steps product w) swept.which_is
+
+  -- those of the next month fit
+  pub month_fits : (steps : ℕ) → HasSteps steps s.months_left → 0 < s.months_left
+      → steps + cell_steps s.product (plan_in s) (s.months_left - 1) < 2 ^ 63
+  month_fits steps has some = omega (
+    arith,
+    has,
+    steps_here,
+    steps_last (cell_steps product plan) s.months_left some,
+    is.split,
+    is.few,
+    made,
+    room,
+  )
+
+  pub month_counted : (steps after : ℕ) → HasSteps steps s.months_left → 0 < s.months_left
+      → after ≡ steps + cell_steps s.product (plan_in s) (s.months_left - 1) → HasSteps after (s.months_left - 1)
+  month_counted steps after has some taken =
+      omega (arith, has, taken, steps_here, steps_last (cell_steps product plan) s.months_left some)
+
+  -- at date 0 they are the cost
+  pub all_counted : (steps : ℕ) → HasSteps steps s.months_left → s.months_left ≡ 0 → steps ≡ old + cost product plan
+  all_counted steps has none =
+      let nothing : cells_cost product plan s.months_left ≡ 0 = ap (cells_cost product plan) none in
+      omega (arith, has, nothing, is.split, made)
