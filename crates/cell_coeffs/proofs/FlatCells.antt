@@ -49,7 +49,7 @@ module _ (product : Product) (plan : Plan) (month : ℕ) (constant : IsTrue (is_
   abbrev sums : List (List ℤ)
   sums = list_of (length product.transitions) (λ e. (sum_at plan e month).c)
 
-  in_parts : (is_constant (piece_at product.interest month).c ≡ true) × ((list_all is_constant rates ≡ true)
+  pub in_parts : (is_constant (piece_at product.interest month).c ≡ true) × ((list_all is_constant rates ≡ true)
       × ((list_all is_constant sojourns ≡ true) × (list_all is_constant sums ≡ true)))
   in_parts =
       let first = both_pass (is_constant (piece_at product.interest month).c)
@@ -60,20 +60,20 @@ module _ (product : Product) (plan : Plan) (month : ℕ) (constant : IsTrue (is_
       (sym (list_all-append is_constant rates sojourns) ∙ second.0) in
       (first.0, (third.0, (third.1, second.1)))
 
-  rate_constant : (e : ℕ) → e < length product.transitions
+  pub rate_constant : (e : ℕ) → e < length product.transitions
       → is_constant (piece_at (transition_at product e).rate month).c ≡ true
   rate_constant e b =
       let f : Transition → List ℤ = λ t. (piece_at t.rate month).c in
       ap is_constant (sym (get_or-map f product.transitions e no_transition))
       ∙ each_passes is_constant rates in_parts.1.0 e (f no_transition) (rw (length-map product.transitions f) b)
 
-  sojourn_constant : (i : ℕ) → i < length product.states → is_constant (sojourn_at plan i month).c ≡ true
+  pub sojourn_constant : (i : ℕ) → i < length product.states → is_constant (sojourn_at plan i month).c ≡ true
   sojourn_constant i b =
       let f : ℕ → List ℤ = λ k. (sojourn_at plan k month).c in
       ap is_constant (sym (at-list_of (length product.states) f i [] b))
       ∙ each_passes is_constant sojourns in_parts.1.1.0 i [] (rw (length-list_of (length product.states) f) b)
 
-  sum_constant : (e : ℕ) → e < length product.transitions → is_constant (sum_at plan e month).c ≡ true
+  pub sum_constant : (e : ℕ) → e < length product.transitions → is_constant (sum_at plan e month).c ≡ true
   sum_constant e b =
       let f : ℕ → List ℤ = λ k. (sum_at plan k month).c in
       ap is_constant (sym (at-list_of (length product.transitions) f e [] b))
@@ -100,7 +100,7 @@ module _ (product : Product) (plan : Plan) (month : ℕ) (constant : IsTrue (is_
 
 -- so the exact numbers of its equation above power 0 are 0
 module _ (cell : CellCurves) (flat : IsFlatCell cell) where
-  entry_flat : (i j m : ℕ) → backward_entry cell 1 (suc m) i j ≡ whole (pos 0)
+  pub entry_flat : (i j m : ℕ) → backward_entry cell 1 (suc m) i j ≡ whole (pos 0)
   entry_flat i j m =
       let leaving : leaving_at cell i (suc m) ≡ whole (pos 0) =
       sum_to_zeros cell.states (λ k b. flat.intensity i k m) in
@@ -127,7 +127,7 @@ module _ (cell : CellCurves) (flat : IsFlatCell cell) where
       one_term (suc a) = left_none (intensity_at cell i j (suc a)) (sum_paid_at cell i j (suc m - suc a))
           (flat.intensity i j a)
 
-  free_flat : (h : Fraction) (i m : ℕ) → i < cell.states
+  pub free_flat : (h : Fraction) (i m : ℕ) → i < cell.states
       → h *ℚ (sojourn_rate_at cell i (suc m) +ℚ sum_to cell.states (λ j. first_payment_at cell i j (suc m)))
       ≡ whole (pos 0)
   free_flat h i m b =
