@@ -95,7 +95,7 @@ flat_is_constant h cell flat = record { matrices = at_power; free = free_at_powe
         ≡ whole (pos 0)
     at_power row col zero some = absurd (omega arith)
     at_power row col (suc m) some = table_none cell.states 6 (backward_entry cell 1) (suc m)
-        (λ i j. entry_flat cell flat i j m) row col
+        (λ i j. entry_flat cell flat 1 i j m) row col
 
     free_at_power : (row m : ℕ) → 1 ≤ m
         → number_at (vector_at (scaled_system h (thiele_system cell)).free m) row ≡ whole (pos 0)
