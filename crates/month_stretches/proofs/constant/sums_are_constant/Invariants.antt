@@ -1,0 +1,10 @@
+use Rattle.std.proofs.Common.{◌≡◌, ℕ, ◌<◌}
+use Rattle.std.specs.Prelude.{true}
+use Rattle.model_specs.specs.Stretches.{is_constant}
+use Rattle.payment_plan.specs.Payments.{plan_of}
+use Rattle.product_model.specs.Views.{payments_of}
+use Rattle.month_stretches.specs.Parts.{sum_in}
+use Rattle.month_stretches.proofs.constant.sums_are_constant.Given as goal
+
+abbrev pub invariant-loop-transition : goal.invariant-loop-transition
+invariant-loop-transition l = (k : ℕ) → k < l.transition → is_constant (sum_in (plan_of l.which (payments_of l.product)) l.month k) ≡ true
