@@ -1,15 +1,8 @@
 -- Curves and payments that are constant have their first coefficient in each cell, and are the same where these are.
-use Rattle.std.specs.Prelude.{◌≡◌, ℕ, zero, suc, pos, ◌+◌, ◌*◌, ◌<◌, true, ℤ, ◌-ℤ◌, unsigned_abs, ◌==◌, Bool}
-use Rattle.std.specs.Prelude.{Option, Some, None, option_map, unwrap_or, IsTrue, List, [], ◌∷◌, ◌++◌, map, length, zip}
-use Rattle.std.specs.Prelude.{slice_index_or}
-use Rattle.std.specs.List.{list_all}
+use Rattle.std.specs.Prelude.{◌≡◌, ℕ, zero, suc, pos, ◌*◌, ◌<◌, true, ℤ, ◌-ℤ◌, unsigned_abs, ◌==◌, ◌&&◌}
+use Rattle.std.specs.Prelude.{Option, Some, None, option_map, unwrap_or, IsTrue, List, [], ◌∷◌, length}
 use Rattle.std.proofs.Common.{refl, ap, sym, ◌∙◌, arith}
-use mathlib.Core.Path.{ap₂}
-use Rattle.std.proofs.Math.ListN.{get_or-map}
 use Rattle.std.proofs.lemmas.Int.{ints}
-use Rattle.std.proofs.lemmas.List.{length-map, length-append}
-use Rattle.std.proofs.lemmas.List.Folds.{list_all-append}
-use Rattle.std.proofs.lemmas.Slice.Zip.{length-zip, get_or-zip}
 use Rattle.frac_laws.specs.Fraction.{Fraction, over, ◌+ℚ◌, ◌*ℚ◌}
 use Rattle.frac_laws.specs.Lists.{number_at}
 use Rattle.frac_laws.specs.Polynomials.{times_linear, shifted, stretched, all_over}
@@ -21,12 +14,14 @@ use Rattle.whole_laws.proofs.ListsByPlace.{length-list_of, at-list_of}
 use Rattle.whole_laws.proofs.Members.{each_passes}
 use Rattle.whole_laws.proofs.Tests.{both_pass}
 use Rattle.model_specs.specs.Curve.{Piece, piece_at}
-use Rattle.model_specs.specs.Product.{Product, Step, Transition, transition_at, no_transition}
+use Rattle.model_specs.specs.Product.{Product, Step, transition_at}
 use Rattle.model_specs.specs.Payments.{Plan, sojourn_at, sum_at}
 use Rattle.model_specs.specs.Cells.{Grid, cell_curves, curve_cell, amount_cell, transition_between}
 use Rattle.model_specs.specs.Systems.{interest_at, intensity_at, sojourn_rate_at, sum_paid_at}
 use Rattle.model_specs.specs.MonthNumbers.{coefficient_at}
 use Rattle.model_specs.specs.Stretches.{is_constant, is_constant_month, keeps_values}
+use Rattle.month_stretches.specs.Parts.{interest_in, rate_in, sojourn_in, sum_in, is_same, are_same}
+use Rattle.month_stretches.proofs.InParts.{keeps_in_parts}
 use Rattle.cell_coeffs.proofs.FlatCells.{IsFlatCell, flat_cell, in_parts, rate_constant, sojourn_constant, sum_constant}
 use Rattle.cell_coeffs.proofs.FlatCurves.{IsFlat, times_none, shifted_none, over_flat}
 use Rattle.cell_coeffs.proofs.Links.{found_inside}
@@ -164,101 +159,35 @@ module _ (grid : Grid) (product : Product) (plan : Plan) (month cell other place
 
 -- ---- a month that keeps the values of another
 
-zip_append : {A B : Type 0} (xs ys : List A) (us vs : List B) → length xs ≡ length us
-    → zip (xs ++ ys) (us ++ vs) ≡ zip xs us ++ zip ys vs
-zip_append [] ys [] vs same = refl
-zip_append [] ys (u ∷ us) vs same = absurd (omega arith)
-zip_append (x ∷ xs) ys [] vs same = absurd (omega arith)
-zip_append (x ∷ xs) ys (u ∷ us) vs same = ap (λ ps. (x, u) ∷ ps) (zip_append xs ys us vs (omega arith))
+-- two polynomials whose first coefficients pass the test have the same one
+same_of_test : (x y : List ℤ) → is_same (x, y) ≡ true → coefficient_at x 0 ≡ coefficient_at y 0
+same_of_test x y passes = none_apart (coefficient_at x 0) (coefficient_at y 0) passes
+  where
+    none_apart : (a b : ℤ) → (unsigned_abs (a -ℤ b) == 0) ≡ true → a ≡ b
+    none_apart a b passes = grind (arith, ints)
 
--- the test of `keeps_values`
-abbrev same_first : List ℤ × List ℤ → Bool
-same_first pair = unsigned_abs (coefficient_at pair.0 0 -ℤ coefficient_at pair.1 0) == 0
+listed_kept : (count : ℕ) (f g : ℕ → List ℤ) → are_same count f g ≡ true → (i : ℕ) → i < count
+    → coefficient_at (f i) 0 ≡ coefficient_at (g i) 0
+listed_kept count f g pass i b =
+    let pairs : ℕ → List ℤ × List ℤ = λ k. (f k, g k) in
+    same_of_test (f i) (g i) (ap is_same (sym (at-list_of count pairs i ([], []) b))
+    ∙ each_passes is_same (list_of count pairs) pass i ([], []) (rw (length-list_of count pairs) b))
 
-same_of_test : (x y : ℤ) → (unsigned_abs (x -ℤ y) == 0) ≡ true → x ≡ y
-same_of_test x y passes = grind (arith, ints)
-
--- both at a place
-passes_at : (xs us : List (List ℤ)) → list_all same_first (zip xs us) ≡ true → length xs ≡ length us
-    → (i : ℕ) → i < length xs → (d e : List ℤ)
-    → coefficient_at (slice_index_or xs i d) 0 ≡ coefficient_at (slice_index_or us i e) 0
-passes_at xs us pass same i b d e =
-    let first = slice_index_or xs i d in
-    let second = slice_index_or us i e in
-    same_of_test (coefficient_at first 0) (coefficient_at second 0)
-    (ap same_first (sym (get_or-zip xs us i (d, e) b (rw same at b)))
-    ∙ each_passes same_first (zip xs us) pass i (d, e) (rw length-zip (omega (arith, same, b))))
-
-module _ (product : Product) (plan : Plan) (month other : ℕ)
-    (keeps : IsTrue (keeps_values product plan month other)) where
-  abbrev rates : ℕ → List (List ℤ)
-  rates m = map (λ (t : Transition). (piece_at t.rate m).c) product.transitions
-
-  abbrev sojourns : ℕ → List (List ℤ)
-  sojourns m = list_of (length product.states) (λ i. (sojourn_at plan i m).c)
-
-  abbrev sums : ℕ → List (List ℤ)
-  sums m = list_of (length product.transitions) (λ e. (sum_at plan e m).c)
-
-  rates_alike : length (rates month) ≡ length (rates other)
-  rates_alike = length-map product.transitions _ ∙ sym (length-map product.transitions _)
-
-  sojourns_alike : length (sojourns month) ≡ length (sojourns other)
-  sojourns_alike = length-list_of (length product.states) _ ∙ sym (length-list_of (length product.states) _)
-
-  sums_alike : length (sums month) ≡ length (sums other)
-  sums_alike = length-list_of (length product.transitions) _ ∙ sym (length-list_of (length product.transitions) _)
-
-  parts_keep : (same_first ((piece_at product.interest month).c, (piece_at product.interest other).c) ≡ true)
-      × ((list_all same_first (zip (rates month) (rates other)) ≡ true)
-      × ((list_all same_first (zip (sojourns month) (sojourns other)) ≡ true)
-      × (list_all same_first (zip (sums month) (sums other)) ≡ true)))
-  parts_keep =
-      let front = rates month ++ sojourns month in
-      let front_other = rates other ++ sojourns other in
-      let front_alike : length front ≡ length front_other =
-      length-append (rates month) (sojourns month) ∙ ap₂ (λ x y. x + y) rates_alike sojourns_alike
-      ∙ sym (length-append (rates other) (sojourns other)) in
-      let first = both_pass
-      (same_first ((piece_at product.interest month).c, (piece_at product.interest other).c))
-      (list_all same_first (zip (front ++ sums month) (front_other ++ sums other))) keeps in
-      let second = both_pass (list_all same_first (zip front front_other))
-      (list_all same_first (zip (sums month) (sums other)))
-      (sym (list_all-append same_first (zip front front_other) (zip (sums month) (sums other)))
-      ∙ ap (list_all same_first) (sym (zip_append front (sums month) front_other (sums other) front_alike))
-      ∙ first.1) in
-      let third = both_pass (list_all same_first (zip (rates month) (rates other)))
-      (list_all same_first (zip (sojourns month) (sojourns other)))
-      (sym (list_all-append same_first (zip (rates month) (rates other)) (zip (sojourns month) (sojourns other)))
-      ∙ ap (list_all same_first)
-      (sym (zip_append (rates month) (sojourns month) (rates other) (sojourns other) rates_alike))
-      ∙ second.0) in
-      (first.0, (third.0, (third.1, second.1)))
-
-  rate_kept : (e : ℕ) → e < length product.transitions
-      → coefficient_at (piece_at (transition_at product e).rate month).c 0
-      ≡ coefficient_at (piece_at (transition_at product e).rate other).c 0
-  rate_kept e b =
-      let f : ℕ → Transition → List ℤ = λ m t. (piece_at t.rate m).c in
-      ap (λ c. coefficient_at c 0) (sym (get_or-map (f month) product.transitions e no_transition))
-      ∙ passes_at (rates month) (rates other) parts_keep.1.0 rates_alike e (rw (length-map product.transitions (f month)) b)
-      (f month no_transition) (f other no_transition)
-      ∙ ap (λ c. coefficient_at c 0) (get_or-map (f other) product.transitions e no_transition)
-
-  listed_kept : (count : ℕ) (f g : ℕ → List ℤ) → list_all same_first (zip (list_of count f) (list_of count g)) ≡ true
-      → (i : ℕ) → i < count → coefficient_at (f i) 0 ≡ coefficient_at (g i) 0
-  listed_kept count f g pass i b =
-      ap (λ c. coefficient_at c 0) (sym (at-list_of count f i [] b))
-      ∙ passes_at (list_of count f) (list_of count g) pass (length-list_of count f ∙ sym (length-list_of count g)) i
-      (rw (length-list_of count f) b) [] []
-      ∙ ap (λ c. coefficient_at c 0) (at-list_of count g i [] b)
-
-  pub first_kept : HaveSameFirst product plan month other
-  first_kept = record {
-    interest = same_of_test _ _ parts_keep.0;
-    rates = rate_kept;
-    sojourns = listed_kept (length product.states) (λ i. (sojourn_at plan i month).c) (λ i. (sojourn_at plan i other).c)
-        parts_keep.1.1.0;
-    sums = listed_kept (length product.transitions) (λ e. (sum_at plan e month).c) (λ e. (sum_at plan e other).c)
-        parts_keep.1.1.1;
-  }
+pub first_kept : (product : Product) (plan : Plan) (month other : ℕ) → IsTrue (keeps_values product plan month other)
+    → HaveSameFirst product plan month other
+first_kept product plan month other keeps =
+    let states = length product.states in
+    let transitions = length product.transitions in
+    let interest = is_same (interest_in product month, interest_in product other) in
+    let rates = are_same transitions (rate_in product month) (rate_in product other) in
+    let sojourns = are_same states (sojourn_in plan month) (sojourn_in plan other) in
+    let all = both_pass ((interest && rates) && sojourns) (are_same transitions (sum_in plan month) (sum_in plan other))
+    (sym (keeps_in_parts product plan month other) ∙ keeps) in
+    let three = both_pass (interest && rates) sojourns all.0 in
+    let two = both_pass interest rates three.0 in
+    record {
+      interest = same_of_test (interest_in product month) (interest_in product other) two.0;
+      rates = listed_kept transitions (rate_in product month) (rate_in product other) two.1;
+      sojourns = listed_kept states (sojourn_in plan month) (sojourn_in plan other) three.1;
+      sums = listed_kept transitions (sum_in plan month) (sum_in plan other) all.1;
+    }
