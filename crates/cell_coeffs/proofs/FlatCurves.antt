@@ -36,7 +36,7 @@ scaled_none c p none m = number_at-scale_list c p m ∙ none_times c (number_at 
 pub scaled_flat : (c : Fraction) (p : List Fraction) → IsFlat p → IsFlat (scale_list c p)
 scaled_flat c p flat m = number_at-scale_list c p (suc m) ∙ none_times c (number_at p (suc m)) (flat m)
 
-times_none : (b : Fraction) (p : List Fraction) → IsNone p → IsNone (times_linear b p)
+pub times_none : (b : Fraction) (p : List Fraction) → IsNone p → IsNone (times_linear b p)
 times_none b p none m =
     number_at-add_lists (scale_list b p) (whole (pos 0) ∷ p) m
     ∙ none_plus (number_at (scale_list b p) m) (number_at (whole (pos 0) ∷ p) m) (scaled_none b p none m) (later m)
@@ -45,7 +45,7 @@ times_none b p none m =
     later zero = refl
     later (suc m) = none m
 
-shifted_none : (b : Fraction) (p : List Fraction) → IsNone p → IsNone (shifted b p)
+pub shifted_none : (b : Fraction) (p : List Fraction) → IsNone p → IsNone (shifted b p)
 shifted_none b [] none m = refl
 shifted_none b (c ∷ p) none m =
     number_at-add_lists (c ∷ []) (times_linear b (shifted b p)) m
@@ -84,7 +84,7 @@ constant_later (x ∷ xs) constant m = elim (cases_lt m (length xs)) [
   | inr past ↦ past_end xs m past
 ]
 
-over_flat : (d : ℕ) (c : List ℤ) → is_constant c ≡ true → IsFlat (all_over d c)
+pub over_flat : (d : ℕ) (c : List ℤ) → is_constant c ≡ true → IsFlat (all_over d c)
 over_flat d c constant m =
     at-all_over d c (suc m) ∙ ap (λ z. over z d) (constant_later c constant m) ∙ over-zero d
 

@@ -28,4 +28,5 @@ pub mod PairLinks
 pub mod PairRowSteps
 pub mod SmallPairs
 pub mod StandingPairs
+pub mod FlatPairs
 pub mod MadePairs

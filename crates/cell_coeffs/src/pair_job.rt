@@ -1,11 +1,13 @@
 //! Filling a system with the equations of both moments.
 
-ghost use Rattle.std.specs.Prelude.{◌≡◌, ℕ, ◌<◌, ◌≤◌, pos, length};
+ghost use Rattle.std.specs.Prelude.{◌≡◌, ℕ, ◌<◌, ◌≤◌, pos, length, IsTrue};
+ghost use Rattle.linear_system.specs.DegreeLimit.{IsConstant};
 ghost use Rattle.linear_system.specs.Setting.{HaveSamePlaces};
 ghost use Rattle.linear_system.specs.StandsFor.{StandsForPair};
 ghost use Rattle.linear_system.specs.StoredSystem.{stored_number};
 ghost use Rattle.model_specs.specs.Ledgers.{scale};
 ghost use Rattle.model_specs.specs.Payments.{payment_plan};
+ghost use Rattle.model_specs.specs.Stretches.{is_constant_month};
 ghost use Rattle.model_specs.specs.Systems.{norberg_pair};
 ghost use Rattle.model_specs.specs.ValuationRules.{IsAdmissible};
 ghost use Rattle.cell_bounds.specs.ScaledSystems.{scaling, scaled_pair};
@@ -60,6 +62,9 @@ pub fn fill_moments(p: &Product, g: u32, month: u32, cell: u32, out: &mut CellSy
     ensures second { (i : ℕ) → i < length p.now.states
         → IsStoredSecondRow (backward_cell p.now (payment_plan p.now) month cell) (scaling g) i out.new }
     ensures places { HaveSamePlaces out.old out.new }
+
+    // Where nothing varies over the month, no number other than 0 is stored above power 0.
+    ensures constant { IsTrue (is_constant_month p.now (payment_plan p.now) month) → IsConstant out.new }
 {
     let at = Place {
         which: Which::Benefits,

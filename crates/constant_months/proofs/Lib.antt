@@ -1,0 +1,5 @@
+pub mod FirstNumbers
+pub mod MonthSystems
+pub mod MonthTurns
+pub mod SameCells
+pub mod StepSums

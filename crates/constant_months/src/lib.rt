@@ -8,4 +8,4 @@ mod month_turns;
 
 pub use costs::costs_split;
 pub use month_systems::constant_months_are_one_system;
-pub use month_turns::{maps_enclose_months, months_are_turns};
+pub use month_turns::months_are_turns;

@@ -35,5 +35,5 @@ returns-clause-constant c =
     let rows = rw c.plan_of_job.ensures at c.fill_first.ensures.stands in
     stored_constant (cell_at c.args.p.now which c.args.month c.args.cell)
     (flat_cell c.args.p.now (plan_of which (payments_of c.args.p.now)) c.args.month constant (cells_of_32 Backward)
-    c.args.cell) (scaling c.args.g) c.fill_first.new.out
-    (c.fill_first.ensures.places.dim ∙ c.requires.made.dim_is) rows
+    c.args.cell) (scaling c.args.g) c.fill_first.new.out rows
+    (c.fill_first.ensures.places.dim ∙ c.requires.made.dim_is)
