@@ -50,6 +50,6 @@ pub record KeepFirstMaps (old new : List StoredMap) : Type 0 where
   pub same : (k : ℕ) (d : StoredMap) → k < length old → slice_index_or new k d ≡ slice_index_or old k d
 
 -- a count rose by at most so much
-pub record RisesAtMost (old most new : ℕ) : Type 0 where
+pub record RisesAtMost (old limit new : ℕ) : Type 0 where
   pub least : old ≤ new
-  pub most : new ≤ old + most
+  pub most : new ≤ old + limit

@@ -7,4 +7,4 @@ returns-clause-split c = c.costs_split.ensures.split c.args.adm.now (plan_named 
 pub returns-clause-few : goal.returns-clause-few
 returns-clause-few c =
     (c.costs_split.ensures.small c.args.adm.now (plan_named c.args.which c.args.adm.now)
-    c.product-_product.ensures.admissible.well_formed.names.at_most_twelve).whole
+    c.product-product.ensures.admissible.well_formed.names.at_most_twelve).whole

@@ -1,6 +1,9 @@
 use Rattle.std.proofs.Common.{◌≡◌, ◌+◌, ◌<◌, ap, sym, subst, ◌∙◌, refl, arith}
 use Rattle.named_numbers.specs.Numbers.{least_degree}
-use Rattle.thiele_backward.specs.Sweeps.{at_term, month_earlier}
+use Rattle.thiele_backward.specs.Costs.{cells_cost}
+use Rattle.thiele_backward.specs.Sweeps.{BackwardSweep, at_term, month_earlier}
+use Rattle.rate_bounds.specs.MonthPay.{plan_named}
+use Rattle.thiele_backward.proofs.StepCounts.{HasSteps, month_fits, month_counted, all_counted}
 use Rattle.thiele_backward.proofs.SweptTerms.{IsSwept, swept_none, swept_more, valued_for}
 use Rattle.thiele_backward.proofs.valuation.value.Goals as goal
 
@@ -12,12 +15,24 @@ loop-month-init g c = record {
       (ap (λ (s : BackwardSweep). s.months_left) c.in_ok-sweep.ensures.begun);
 }
 
+pub month_back-row-requires-clause-count : goal.month_back-row-requires-clause-count
+month_back-row-requires-clause-count g c =
+    let swept = c.loop-month.invariant.swept in
+    let term : c.months-month-end.result ≡ c.args.adm.now.months =
+    c.months-month-end.ensures.value ∙ ap (λ p. p.months) c.product.ensures.product in
+    let left : 0 < c.loop-month.sweep.months_left = omega (arith, swept.left, c.loop-month-test.true, term) in
+    month_fits c.args.adm.now c.args.which
+    (record { split = c.cost_splits.ensures.split; few = c.cost_splits.ensures.few }) c.loop-month._month
+    c.loop-month.degree c.loop-month.sweep swept c.args.steps.now c.prepare.new.steps c.in_ok-sweep.ensures.count
+    c.requires c.loop-month.steps c.loop-month.invariant.count left
+
 pub loop-month-preserved : goal.loop-month-preserved
 loop-month-preserved g c =
     let swept = c.loop-month.invariant.swept in
     let term : c.months-month-end.result ≡ c.args.adm.now.months =
     c.months-month-end.ensures.value ∙ ap (λ p. p.months) c.product.ensures.product in
     let left : 0 < c.loop-month.sweep.months_left = omega (arith, swept.left, c.loop-month-test.true, term) in
+    let cost_is = record { split = c.cost_splits.ensures.split; few = c.cost_splits.ensures.few } in
     let row = c.month_back-row.result in
     let more = swept_more c.args.adm.now c.args.which c.loop-month._month c.loop-month.degree row.degree
     c.loop-month.sweep swept left c.month_back-row.ensures.least c.month_back-row.ensures.highest
@@ -27,7 +42,13 @@ loop-month-preserved g c =
           (sym c.month_back-row.ensures.earlier)
           (subst (λ d. IsSwept c.args.adm.now c.args.which (c.loop-month._month + 1) d
           (month_earlier c.loop-month.sweep row.degree)) (sym c.max-degree.ensures) more);
-      count = counted;
+      count = subst (λ left. HasSteps c.args.adm.now c.args.which cost_is c.loop-month._month c.loop-month.degree
+          c.loop-month.sweep swept c.args.steps.now c.prepare.new.steps c.in_ok-sweep.ensures.count c.requires
+          c.month_back-row.new.steps left)
+          (sym (ap (λ (s : BackwardSweep). s.months_left) c.month_back-row.ensures.earlier))
+          (month_counted c.args.adm.now c.args.which cost_is c.loop-month._month c.loop-month.degree c.loop-month.sweep
+          swept c.args.steps.now c.prepare.new.steps c.in_ok-sweep.ensures.count c.requires c.loop-month.steps
+          c.month_back-row.new.steps c.loop-month.invariant.count left c.month_back-row.ensures.count);
     }
 
 pub returns-clause-value : goal.returns-clause-value
@@ -43,3 +64,16 @@ returns-clause-value g c =
     let begun = swept.begun ∙ ap at_term (sym swept.product_is) in
     valued_for c.args.adm.now c.args.which c.loop-month.degree _ c.start.result c.loop-month.sweep _ swept refl start
     c.enclosure_before.ensures.width c.enclosure_before.ensures.small (c.enclosure_before.ensures.reserves begun)
+
+pub returns-clause-count : goal.returns-clause-count
+returns-clause-count g c =
+    let term : c.months-month-end.result ≡ c.args.adm.now.months =
+    c.months-month-end.ensures.value ∙ ap (λ p. p.months) c.product.ensures.product in
+    all_counted c.args.adm.now c.args.which
+    (record { split = c.cost_splits.ensures.split; few = c.cost_splits.ensures.few }) c.loop-month._month
+    c.loop-month.degree c.loop-month.sweep c.loop-month.invariant.swept c.args.steps.now c.prepare.new.steps
+    c.in_ok-sweep.ensures.count c.requires c.loop-month.steps c.loop-month.invariant.count
+    (omega (arith, c.loop-month.invariant.swept.left, c.loop-month-test.false, term))
+
+pub returns-clause-count_at_most : goal.returns-clause-count_at_most
+returns-clause-count_at_most g c = omega (arith, returns-clause-count g c, c.cost_splits.ensures.few)

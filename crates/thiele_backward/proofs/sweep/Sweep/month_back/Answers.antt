@@ -39,7 +39,7 @@ invariant_of-self g c =
     let left : 0 < c.self.inside.months_left =
     rw (ap (λ (s : BackwardSweep). s.months_left) c.self.view_is) c.requires.left in
     let product_is = c.requires.product ∙ sym (ap (λ (s : BackwardSweep). s.product) c.self.view_is) in
-    keeps_written _ _ _ _ _ _ c.month_over-degree.new.mid c.self.inside.mid.items
+    let runs = keeps_written _ _ _ _ _ _ c.month_over-degree.new.mid c.self.inside.mid.items
     (c.month_over-degree.auto.mid ∙ c.deref_mut.ensures.len)
     (keeps_month_of _ _ _ _ _ _ c.self.invariant.runs (c.self.inside.months_left - 1) (omega (arith, left))
     c.args.adm.now c.deref_mut.result.now product_is c.deref_mut.ensures.value c.month_over-degree.result
@@ -48,4 +48,5 @@ invariant_of-self g c =
     c.month_over-degree.ensures.near c.month_over-degree.ensures.highest c.max-self-inside.ensures
     c.radius-radius.ensures.value
     c.radius-radius.ensures.most c.month_over-degree.ensures.places c.month_over-degree.ensures.work
-    c.month_over-degree.auto.mid)
+    c.month_over-degree.auto.mid) in
+    record { runs = runs; maps_are = c.self.invariant.maps_are }

@@ -6,7 +6,7 @@ use Rattle.thiele_backward.proofs.KeptRuns.{some_at_term}
 use Rattle.thiele_backward.proofs.sweep.Sweep.prepare.Goals as goal
 
 pub begin-requires-clause-start : goal.begin-requires-clause-start
-begin-requires-clause-start c =
+begin-requires-clause-start g c =
     let product_is = c.product-product.ensures.product in
     let states = c.states.ensures.count ∙ ap (λ (g : StateGraph). length g.names) c.graph.ensures.graph
     ∙ ap (λ (p : Product). length p.states) product_is in
