@@ -1,7 +1,6 @@
 -- A constant month by its map: the map can be made, stands for the other months of its stretch, and is as 32 cells.
 use Rattle.std.specs.Prelude.{◌≡◌, ℕ, suc, pos, ◌+◌, ◌-◌, ◌^◌, ◌<◌, ◌≤◌, ℤ, IsTrue, List, length, slice_index_or}
 use Rattle.std.proofs.Common.{ap, sym, subst, ◌∙◌, arith, inl, inr}
-use mathlib.Core.Path.{ap₂}
 use Rattle.std.proofs.lemmas.Bool.{cases_lt}
 use Rattle.frac_laws.specs.Fraction.{over, size, ◌-ℚ◌, ◌≤ℚ◌}
 use Rattle.frac_laws.specs.Lists.{Vector, number_at, scale_list, add_lists, subtract_lists}
@@ -72,6 +71,17 @@ near_each u numbers d rad short long each =
           (number_at-past u d row short past ∙ sym (past-units numbers row (rw long past)))
     ]))
 
+-- the radius of a map's cells leaves a unit
+spare_left : (product : Product) (month : ℕ)
+    → grow_turns cells_of_month (radius product (suc month)) (kappa40 product month)
+    ≤ radius_in product month cells_of_month - 1
+spare_left product month = one_left (grow_turns cells_of_month (radius product (suc month)) (kappa40 product month))
+    (radius_in product month cells_of_month)
+    (ledgers_leave_spare cells_of_month (radius product (suc month)) (kappa40 product month))
+  where
+    one_left : (few more : ℕ) → few + cells_of_month ≤ more → few ≤ more - 1
+    one_left few more h = omega arith
+
 module _ (which : Which) (product : Product) (month : ℕ) (admissible : IsAdmissible product)
     (inside : month < product.months)
     (constant : IsTrue (is_constant_month product (plan_named which product) month)) where
@@ -134,14 +144,13 @@ module _ (which : Which) (product : Product) (month : ℕ) (admissible : IsAdmis
       let begun : IsStartOf m.dim rad y (λ col. slice_index_or old col (pos 0)) =
       subst (λ d. IsStartOf d rad y (λ col. slice_index_or old col (pos 0))) dim (start_of old n v long above start) in
       let stays = promise s kappa rad n e y of_month.made (is_cell s of_month.stands) from begun in
-      let spare : grow_turns 32 rad kappa ≤ radius_in product month cells_of_month - 1 =
-      omega (arith, ledgers_leave_spare 32 rad kappa) in
       near_each (scale_list (plan_scaling product plan) (month_values product plan n month v cells_of_month)) new
       (length product.states) (radius_in product month cells_of_month - 1)
       (scaled_fit product plan month admissible (four_named which product admissible) inside n v start.begins.fits
       cells_of_month) same
       (λ row b. rw (months_are_turns product plan n month cells_of_month w constant)
-      (le_trans (stays row b) (units-order (grow_turns 32 rad kappa) (radius_in product month cells_of_month - 1) spare)))
+      (le_trans (stays row b) (units-order (grow_turns 32 rad kappa) (radius_in product month cells_of_month - 1)
+      (spare_left product month))))
 
 -- the map of a month is that of the next one, where that goes on with the stretch
 pub map_goes_on : (which : Which) (product : Product) (month : ℕ) (m : StoredMap)
