@@ -1,7 +1,7 @@
 -- Counts of steps over months.
-use Rattle.std.specs.Prelude.{◌≡◌, ℕ, zero, suc, ◌+◌, ◌-◌, ◌*◌, ◌^◌, ◌<◌, ◌≤◌, Bool, true, false, IsTrue}
-use Rattle.std.specs.Prelude.{if◌then◌else◌, length}
-use Rattle.std.proofs.Common.{refl, ap, ◌∙◌, arith, inl, inr}
+use Rattle.std.specs.Prelude.{◌≡◌, ℕ, zero, suc, ◌+◌, ◌-◌, ◌*◌, ◌^◌, ◌<◌, ◌≤◌, Bool, false, IsTrue}
+use Rattle.std.specs.Prelude.{if◌then◌else◌, length, Result, Ok, Err, OnErr}
+use Rattle.std.proofs.Common.{refl, ap, ◌∙◌, arith, inl, inr, add-one}
 use mathlib.Core.Path.{ap₂}
 use Rattle.std.proofs.lemmas.Bool.{cases_lt}
 use Rattle.named_numbers.specs.Numbers.{cells_of_month}
@@ -55,6 +55,10 @@ steps_grow steps m (suc n) few = elim (cases_lt m (suc n)) [
       rw same (omega arith)
 ]
 
+-- one month more
+pub steps_next : (steps : ℕ → ℕ) (months : ℕ) → steps_to steps (months + 1) ≡ steps_to steps months + steps months
+steps_next steps months = ap (steps_to steps) (add-one months)
+
 -- the steps of the last of some months
 pub steps_last : (steps : ℕ → ℕ) (months : ℕ) → 0 < months
     → steps_to steps months ≡ steps_to steps (months - 1) + steps (months - 1)
@@ -62,6 +66,33 @@ steps_last steps zero some = absurd (omega (arith, some))
 steps_last steps (suc months) some =
     let one_less : suc months - 1 ≡ months = omega arith in
     rw one_less refl
+
+-- ---- refusals
+
+-- what holds, holds where there is an error
+pub on_err_is : {T E P : Type 0} (result : Result T E) → P → OnErr result P
+on_err_is (Ok x) is = tt
+on_err_is (Err e) is = is
+
+pub rises_by : (old taken new : ℕ) → new ≡ old + taken → RisesAtMost old taken new
+rises_by old taken new is = record { least = omega (arith, is); most = omega (arith, is) }
+
+-- a refusal in a month
+pub refused_in_month : (steps : ℕ → ℕ) (months month old begun new : ℕ) → month < months
+    → begun ≡ old + steps_to steps month → RisesAtMost begun (steps month) new
+    → RisesAtMost old (steps_to steps months) new
+refused_in_month steps months month old begun new inside is rises = record {
+  least = omega (arith, is, rises.least);
+  most = omega (
+    arith,
+    is,
+    rises.most,
+    steps_next steps month,
+    steps_grow steps (month + 1) months (omega (arith, inside)),
+  );
+}
+
+-- ---- whole sweeps
 
 -- what a valuation's cost is made of
 pub record CostIs (product : Product) (plan : Plan) : Type 0 where

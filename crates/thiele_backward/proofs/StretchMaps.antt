@@ -1,6 +1,6 @@
 -- The maps of constant months, one stretch after the other.
-use Rattle.std.specs.Prelude.{◌≡◌, ℕ, zero, suc, ◌+◌, ◌-◌, ◌<◌, ◌≤◌, IsTrue, true, false, List, [], ◌∷◌, ◌++◌}
-use Rattle.std.specs.Prelude.{Option, Some, None, MatchOption, length, slice_index_or}
+use Rattle.std.specs.Prelude.{◌≡◌, ℕ, zero, suc, ◌+◌, ◌-◌, IsTrue, List, [], ◌∷◌, ◌++◌}
+use Rattle.std.specs.Prelude.{Option, Some, None, length, slice_index_or}
 use Rattle.std.proofs.Common.{refl, ap, sym, subst, ◌∙◌, arith, inl, inr}
 use Rattle.std.proofs.Math.ListN.{get_or-append}
 use Rattle.std.proofs.Math.Seq.{get_or-append_seam}
@@ -94,8 +94,12 @@ map_kept product plan month old new (Some k) kept has = record {
   map = λ d. subst (λ m. IsMonthsMap product plan month m) (sym (kept.same k d has.inside)) (has.map d);
 }
 
-pub have_none : (product : Product) (plan : Plan) (maps : List StoredMap) → HaveMaps product plan 0 maps []
-have_none product plan maps = record { long = refl; each = λ month d none. absurd (omega (arith, none)) }
+pub have_none : (product : Product) (plan : Plan) (maps : List StoredMap) (places : List (Option ℕ)) → places ≡ []
+    → HaveMaps product plan 0 maps places
+have_none product plan maps places are = record {
+  long = ap length are;
+  each = λ month d none. absurd (omega (arith, none));
+}
 
 -- one month more
 pub have_more : (product : Product) (plan : Plan) (months : ℕ) (old new : List StoredMap) (places all : List (Option ℕ))

@@ -60,7 +60,14 @@ fn map_of_month<L: Ledger>(
     ensures work { work.new ≡ work.old }
     ensures places { HaveSamePlaces system.old system.new }
 {
-    fill(adm.product(), adm.scale(which), month, 0, Job::First(which), system);
+    fill(
+        adm.product(),
+        adm.scale(which),
+        month,
+        0,
+        Job::First(which),
+        system,
+    );
     let map = MonthMap::make(alloc, system, work, steps)?;
     Ok(map)
 }

@@ -1,1 +1,0 @@
-use Rattle.thiele_backward.proofs.month.month_over.Goals as goal

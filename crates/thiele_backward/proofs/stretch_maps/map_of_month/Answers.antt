@@ -1,5 +1,3 @@
-use Rattle.std.proofs.Common.{◌∙◌, sym}
-use Rattle.cell_coeffs.proofs.RowSteps.{made_kept}
 use Rattle.thiele_backward.proofs.CellSteps.{constant_named}
 use Rattle.thiele_backward.proofs.ConstantMonths.{stands_for_month, can_make_month}
 use Rattle.thiele_backward.proofs.stretch_maps.map_of_month.Goals as goal

@@ -3,7 +3,8 @@ use Rattle.named_numbers.specs.Numbers.{least_degree}
 use Rattle.thiele_backward.specs.Costs.{cells_cost}
 use Rattle.thiele_backward.specs.Sweeps.{BackwardSweep, at_term, month_earlier}
 use Rattle.rate_bounds.specs.MonthPay.{plan_named}
-use Rattle.thiele_backward.proofs.StepCounts.{HasSteps, month_fits, month_counted, all_counted}
+use Rattle.thiele_backward.proofs.StepCounts.{CostIs, HasSteps, month_fits, month_counted, all_counted}
+use Rattle.thiele_backward.proofs.StepCounts.{on_err_is, refused_early}
 use Rattle.thiele_backward.proofs.SweptTerms.{IsSwept, swept_none, swept_more, valued_for}
 use Rattle.thiele_backward.proofs.valuation.value.Goals as goal
 
@@ -32,7 +33,8 @@ loop-month-preserved g c =
     let term : c.months-month-end.result ≡ c.args.adm.now.months =
     c.months-month-end.ensures.value ∙ ap (λ p. p.months) c.product.ensures.product in
     let left : 0 < c.loop-month.sweep.months_left = omega (arith, swept.left, c.loop-month-test.true, term) in
-    let cost_is = record { split = c.cost_splits.ensures.split; few = c.cost_splits.ensures.few } in
+    let cost_is : CostIs c.args.adm.now (plan_named c.args.which c.args.adm.now) =
+    record { split = c.cost_splits.ensures.split; few = c.cost_splits.ensures.few } in
     let row = c.month_back-row.result in
     let more = swept_more c.args.adm.now c.args.which c.loop-month._month c.loop-month.degree row.degree
     c.loop-month.sweep swept left c.month_back-row.ensures.least c.month_back-row.ensures.highest
@@ -77,3 +79,21 @@ returns-clause-count g c =
 
 pub returns-clause-count_at_most : goal.returns-clause-count_at_most
 returns-clause-count_at_most g c = omega (arith, returns-clause-count g c, c.cost_splits.ensures.few)
+
+pub returns-in_err-sweep-clause-refused : goal.returns-in_err-sweep-clause-refused
+returns-in_err-sweep-clause-refused g c =
+    on_err_is c.from_residual.result
+    (refused_early c.args.adm.now (plan_named c.args.which c.args.adm.now) c.args.steps.now c.prepare.new.steps
+    (record { split = c.cost_splits.ensures.split; few = c.cost_splits.ensures.few }) c.in_err-sweep.ensures.refused)
+
+pub returns-in_err-sweep-clause-count_at_most : goal.returns-in_err-sweep-clause-count_at_most
+returns-in_err-sweep-clause-count_at_most g c = omega (
+  arith,
+  c.cost_splits.ensures.split,
+  c.cost_splits.ensures.few,
+  c.in_err-sweep.ensures.refused.most,
+)
+
+pub prepare-requires : goal.prepare-requires
+prepare-requires g c =
+    omega (arith, c.cost_splits.ensures.split, c.cost_splits.ensures.few, c.requires)
