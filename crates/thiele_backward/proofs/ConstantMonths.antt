@@ -1,15 +1,13 @@
 -- A constant month by its map: the map can be made, stands for the other months of its stretch, and is as 32 cells.
 use Rattle.std.specs.Prelude.{◌≡◌, ℕ, suc, pos, ◌+◌, ◌-◌, ◌^◌, ◌<◌, ◌≤◌, ℤ, IsTrue, List, length, slice_index_or}
-use Rattle.std.proofs.Common.{ap, sym, subst, ◌∙◌, arith, inl, inr}
+use Rattle.std.proofs.Common.{sym, subst, ◌∙◌, arith, inl, inr}
 use Rattle.std.proofs.lemmas.Bool.{cases_lt}
 use Rattle.frac_laws.specs.Fraction.{over, size, ◌-ℚ◌, ◌≤ℚ◌}
-use Rattle.frac_laws.specs.Lists.{Vector, number_at, scale_list, add_lists, subtract_lists}
+use Rattle.frac_laws.specs.Lists.{Vector, number_at, scale_list, add_lists}
 use Rattle.frac_laws.specs.Norms.{Sup}
 use Rattle.frac_laws.proofs.Lengths.{number_at-past}
 use Rattle.frac_laws.proofs.Linear.{natural}
-use Rattle.frac_laws.proofs.Order.{le_trans, le_of_equal}
-use Rattle.frac_laws.proofs.SmallNumbers.{sup_of_small}
-use Rattle.frac_laws.proofs.Vectors.{number_at-subtract_lists}
+use Rattle.frac_laws.proofs.Order.{le_trans}
 use Rattle.cell_laws.specs.ErrorLaws.{distance}
 use Rattle.cell_laws.specs.Systems.{System}
 use Rattle.named_numbers.specs.Numbers.{cells_of_month, least_degree}
@@ -36,7 +34,7 @@ use Rattle.payment_plan.specs.declared.pattern.Which.{Which}
 use Rattle.cell_bounds.specs.ScaledSystems.{scaling, scaled_system}
 use Rattle.product_cells.specs.EachCell.{backward_cell, plan_scaling}
 use Rattle.sweep_laws.specs.SweepLaws.{units}
-use Rattle.sweep_laws.proofs.PairSweeps.{number_near}
+use Rattle.sweep_laws.proofs.PairSweeps.{number_near, distance_most}
 use Rattle.sweep_laws.proofs.Sweeps.{units-order}
 use Rattle.rate_bounds.specs.MonthPay.{plan_named}
 use Rattle.rate_bounds.proofs.PaySteps.{plan_is}
@@ -64,12 +62,11 @@ near_each : (u : Vector) (numbers : List ℤ) (d rad : ℕ) → length u ≤ d �
     → ((row : ℕ) → row < d → size (number_at u row -ℚ over (slice_index_or numbers row (pos 0)) (2 ^ 64)) ≤ℚ units rad)
     → distance Sup u (in_units numbers) ≤ℚ units rad
 near_each u numbers d rad short long each =
-    sup_of_small (units rad) (subtract_lists u (in_units numbers)) (natural rad (2 ^ 64)) (λ row.
-    le_trans (le_of_equal (ap size (number_at-subtract_lists u (in_units numbers) row))) (elim (cases_lt row d) [
+    distance_most u (in_units numbers) (units rad) (natural rad (2 ^ 64)) (λ row. elim (cases_lt row d) [
       | inl inside ↦ rw (at-units numbers row (rw long inside)) (each row inside)
       | inr past ↦ equal_is_near (number_at u row) (number_at (in_units numbers) row) rad
           (number_at-past u d row short past ∙ sym (past-units numbers row (rw long past)))
-    ]))
+    ])
 
 -- the radius of a map's cells leaves a unit
 spare_left : (product : Product) (month : ℕ)
