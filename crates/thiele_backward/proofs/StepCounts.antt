@@ -26,8 +26,8 @@ module _ (product : Product) (plan : Plan) (month : ℕ) where
 
   pub steps_of_goes_on : IsTrue (is_constant_month product plan month) → IsTrue (continues_stretch product plan month)
       → map_steps product plan month ≡ 0
-  steps_of_goes_on constant goes_on = ap₂ (λ (a b : Bool). if a then (if b then 0 else length product.states + 1) else 0)
-      constant goes_on
+  steps_of_goes_on constant goes_on =
+      ap₂ (λ (a b : Bool). if a then (if b then 0 else length product.states + 1) else 0) constant goes_on
 
   pub steps_of_begins : IsTrue (is_constant_month product plan month) → continues_stretch product plan month ≡ false
       → map_steps product plan month ≡ length product.states + 1

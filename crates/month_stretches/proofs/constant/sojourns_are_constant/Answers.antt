@@ -9,17 +9,24 @@ use Rattle.month_stretches.proofs.constant.sojourns_are_constant.Goals as goal
 
 pub loop-state-preserved : goal.loop-state-preserved
 loop-state-preserved c =
-    more_pass is_constant c.loop-state.state (sojourn_in (plan_of c.args.which (payments_of c.args.product.now)) c.args.month) c.loop-state.invariant (search rules)
+    let plan = plan_of c.args.which (payments_of c.args.product.now) in
+    more_pass is_constant c.loop-state.state (sojourn_in plan c.args.month)
+    c.loop-state.invariant (search rules)
 
 pub returns-then-not-sojourn_first : goal.returns-then-not-sojourn_first
 returns-then-not-sojourn_first c =
-    let count : c.states-state-end.result ≡ length c.args.product.now.states = search rules in
-    let fails : is_constant (sojourn_in (plan_of c.args.which (payments_of c.args.product.now)) c.args.month c.loop-state.state) ≡ false = search rules in
-    one_fails is_constant (length c.args.product.now.states) (sojourn_in (plan_of c.args.which (payments_of c.args.product.now)) c.args.month) c.loop-state.state
-    (omega (arith, c.loop-state-test.true, count)) fails
+    let plan = plan_of c.args.which (payments_of c.args.product.now) in
+    let count : c.states-state-end.result
+    ≡ length c.args.product.now.states = search rules in
+    let fails : is_constant (sojourn_in plan c.args.month c.loop-state.state) ≡ false =
+    search rules in
+    one_fails is_constant (length c.args.product.now.states) (sojourn_in plan c.args.month)
+    c.loop-state.state (omega (arith, c.loop-state-test.true, count)) fails
 
 pub returns : goal.returns
 returns c =
-    let count : c.states-state-end.result ≡ length c.args.product.now.states = search rules in
-    all_pass is_constant (length c.args.product.now.states) (sojourn_in (plan_of c.args.which (payments_of c.args.product.now)) c.args.month)
+    let plan = plan_of c.args.which (payments_of c.args.product.now) in
+    let count : c.states-state-end.result
+    ≡ length c.args.product.now.states = search rules in
+    all_pass is_constant (length c.args.product.now.states) (sojourn_in plan c.args.month)
     (λ k below. c.loop-state.invariant k (omega (arith, below, c.loop-state-test.false, count)))

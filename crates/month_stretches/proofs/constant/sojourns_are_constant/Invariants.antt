@@ -7,4 +7,6 @@ use Rattle.month_stretches.specs.Parts.{sojourn_in}
 use Rattle.month_stretches.proofs.constant.sojourns_are_constant.Given as goal
 
 abbrev pub invariant-loop-state : goal.invariant-loop-state
-invariant-loop-state l = (k : ℕ) → k < l.state → is_constant (sojourn_in (plan_of l.which (payments_of l.product)) l.month k) ≡ true
+invariant-loop-state l =
+    let plan = plan_of l.which (payments_of l.product) in
+    (k : ℕ) → k < l.state → is_constant (sojourn_in plan l.month k) ≡ true

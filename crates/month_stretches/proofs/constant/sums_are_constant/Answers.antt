@@ -9,17 +9,24 @@ use Rattle.month_stretches.proofs.constant.sums_are_constant.Goals as goal
 
 pub loop-transition-preserved : goal.loop-transition-preserved
 loop-transition-preserved c =
-    more_pass is_constant c.loop-transition.transition (sum_in (plan_of c.args.which (payments_of c.args.product.now)) c.args.month) c.loop-transition.invariant (search rules)
+    let plan = plan_of c.args.which (payments_of c.args.product.now) in
+    more_pass is_constant c.loop-transition.transition (sum_in plan c.args.month)
+    c.loop-transition.invariant (search rules)
 
 pub returns-then-not-sum_first : goal.returns-then-not-sum_first
 returns-then-not-sum_first c =
-    let count : c.transitions-transition-end.result ≡ length c.args.product.now.transitions = c.transitions-transition-end.ensures.count in
-    let fails : is_constant (sum_in (plan_of c.args.which (payments_of c.args.product.now)) c.args.month c.loop-transition.transition) ≡ false = search rules in
-    one_fails is_constant (length c.args.product.now.transitions) (sum_in (plan_of c.args.which (payments_of c.args.product.now)) c.args.month) c.loop-transition.transition
-    (omega (arith, c.loop-transition-test.true, count)) fails
+    let plan = plan_of c.args.which (payments_of c.args.product.now) in
+    let count : c.transitions-transition-end.result
+    ≡ length c.args.product.now.transitions = c.transitions-transition-end.ensures.count in
+    let fails : is_constant (sum_in plan c.args.month c.loop-transition.transition) ≡ false =
+    search rules in
+    one_fails is_constant (length c.args.product.now.transitions) (sum_in plan c.args.month)
+    c.loop-transition.transition (omega (arith, c.loop-transition-test.true, count)) fails
 
 pub returns : goal.returns
 returns c =
-    let count : c.transitions-transition-end.result ≡ length c.args.product.now.transitions = c.transitions-transition-end.ensures.count in
-    all_pass is_constant (length c.args.product.now.transitions) (sum_in (plan_of c.args.which (payments_of c.args.product.now)) c.args.month)
+    let plan = plan_of c.args.which (payments_of c.args.product.now) in
+    let count : c.transitions-transition-end.result
+    ≡ length c.args.product.now.transitions = c.transitions-transition-end.ensures.count in
+    all_pass is_constant (length c.args.product.now.transitions) (sum_in plan c.args.month)
     (λ k below. c.loop-transition.invariant k (omega (arith, below, c.loop-transition-test.false, count)))

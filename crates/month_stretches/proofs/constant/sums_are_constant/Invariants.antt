@@ -7,4 +7,6 @@ use Rattle.month_stretches.specs.Parts.{sum_in}
 use Rattle.month_stretches.proofs.constant.sums_are_constant.Given as goal
 
 abbrev pub invariant-loop-transition : goal.invariant-loop-transition
-invariant-loop-transition l = (k : ℕ) → k < l.transition → is_constant (sum_in (plan_of l.which (payments_of l.product)) l.month k) ≡ true
+invariant-loop-transition l =
+    let plan = plan_of l.which (payments_of l.product) in
+    (k : ℕ) → k < l.transition → is_constant (sum_in plan l.month k) ≡ true

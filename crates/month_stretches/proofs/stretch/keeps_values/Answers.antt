@@ -14,4 +14,5 @@ returns c =
     search rules in
     ap₂ ◌&&◌ (ap₂ ◌&&◌ (ap₂ ◌&&◌ first c.rates_are_same.ensures)
     c.sojourns_are_same.ensures) c.sums_are_same.ensures
-    ∙ sym (keeps_in_parts c.args.product.now (plan_of c.args.which (payments_of c.args.product.now)) c.args.month (suc c.args.month))
+    ∙ sym (keeps_in_parts c.args.product.now (plan_of c.args.which (payments_of c.args.product.now)) c.args.month
+    (suc c.args.month))

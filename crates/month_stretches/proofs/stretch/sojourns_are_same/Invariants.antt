@@ -6,5 +6,7 @@ use Rattle.month_stretches.specs.Parts.{is_same, sojourn_in}
 use Rattle.month_stretches.proofs.stretch.sojourns_are_same.Given as goal
 
 abbrev pub invariant-loop-state : goal.invariant-loop-state
-invariant-loop-state l = (k : ℕ) → k < l.state
-    → is_same (sojourn_in (plan_of l.which (payments_of l.product)) l.month k, sojourn_in (plan_of l.which (payments_of l.product)) (suc l.month) k) ≡ true
+invariant-loop-state l =
+    let plan = plan_of l.which (payments_of l.product) in
+    (k : ℕ) → k < l.state
+    → is_same (sojourn_in plan l.month k, sojourn_in plan (suc l.month) k) ≡ true

@@ -6,5 +6,7 @@ use Rattle.month_stretches.specs.Parts.{is_same, sum_in}
 use Rattle.month_stretches.proofs.stretch.sums_are_same.Given as goal
 
 abbrev pub invariant-loop-transition : goal.invariant-loop-transition
-invariant-loop-transition l = (k : ℕ) → k < l.transition
-    → is_same (sum_in (plan_of l.which (payments_of l.product)) l.month k, sum_in (plan_of l.which (payments_of l.product)) (suc l.month) k) ≡ true
+invariant-loop-transition l =
+    let plan = plan_of l.which (payments_of l.product) in
+    (k : ℕ) → k < l.transition
+    → is_same (sum_in plan l.month k, sum_in plan (suc l.month) k) ≡ true
