@@ -2,5 +2,7 @@
 #![tactic(auto)]
 
 mod grid_reserves;
+#[cfg(test)]
+mod tests;
 
 pub use grid_reserves::month_reserves;
