@@ -1,45 +1,19 @@
 -- Counts of steps over months.
-use Rattle.std.specs.Prelude.{◌≡◌, ℕ, zero, suc, ◌+◌, ◌-◌, ◌*◌, ◌^◌, ◌<◌, ◌≤◌, Bool, false, IsTrue}
-use Rattle.std.specs.Prelude.{if◌then◌else◌, length, Result, Ok, Err, OnErr}
+use Rattle.std.specs.Prelude.{◌≡◌, ℕ, zero, suc, ◌+◌, ◌-◌, ◌*◌, ◌^◌, ◌<◌, ◌≤◌}
+use Rattle.std.specs.Prelude.{Result, Ok, Err, OnErr}
 use Rattle.std.proofs.Common.{refl, ap, ◌∙◌, arith, inl, inr, add-one}
-use mathlib.Core.Path.{ap₂}
 use Rattle.std.proofs.lemmas.Bool.{cases_lt}
 use Rattle.named_numbers.specs.Numbers.{cells_of_month}
 use Rattle.model_specs.specs.Product.{Product}
 use Rattle.model_specs.specs.Payments.{Plan}
-use Rattle.model_specs.specs.Stretches.{cost, is_constant_month, continues_stretch}
+use Rattle.model_specs.specs.Stretches.{cost}
 use Rattle.payment_plan.specs.declared.pattern.Which.{Which}
 use Rattle.rate_bounds.specs.MonthPay.{plan_named}
-use Rattle.constant_months.specs.Costs.{map_steps, cell_steps, steps_to}
+use Rattle.constant_months.specs.Costs.{cell_steps, steps_to}
 use Rattle.thiele_backward.specs.Costs.{maps_cost, cells_cost}
 use Rattle.thiele_backward.specs.StretchMaps.{RisesAtMost}
 use Rattle.thiele_backward.specs.Sweeps.{BackwardSweep, plan_in}
 use Rattle.thiele_backward.proofs.SweptTerms.{IsSwept}
-
--- ---- the steps of a month
-
-module _ (product : Product) (plan : Plan) (month : ℕ) where
-  -- those of its map: none where something varies, none where it goes on with its stretch
-  pub no_map_steps : is_constant_month product plan month ≡ false → map_steps product plan month ≡ 0
-  no_map_steps varies = ap (λ (b : Bool). if b
-      then (if continues_stretch product plan month then 0 else length product.states + 1) else 0) varies
-
-  pub steps_of_goes_on : IsTrue (is_constant_month product plan month) → IsTrue (continues_stretch product plan month)
-      → map_steps product plan month ≡ 0
-  steps_of_goes_on constant goes_on =
-      ap₂ (λ (a b : Bool). if a then (if b then 0 else length product.states + 1) else 0) constant goes_on
-
-  pub steps_of_begins : IsTrue (is_constant_month product plan month) → continues_stretch product plan month ≡ false
-      → map_steps product plan month ≡ length product.states + 1
-  steps_of_begins constant begins = ap₂ (λ (a b : Bool). if a then (if b then 0 else length product.states + 1) else 0)
-      constant begins
-
-  -- those of its cells
-  pub no_cell_steps : IsTrue (is_constant_month product plan month) → cell_steps product plan month ≡ 0
-  no_cell_steps constant = ap (λ (b : Bool). if b then 0 else cells_of_month) constant
-
-  pub steps_of_cells : is_constant_month product plan month ≡ false → cell_steps product plan month ≡ cells_of_month
-  steps_of_cells varies = ap (λ (b : Bool). if b then 0 else cells_of_month) varies
 
 -- ---- sums of steps
 

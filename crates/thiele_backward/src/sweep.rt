@@ -87,9 +87,9 @@ impl Model for Sweep {
 }
 
 impl Sweep {
-    /// Begins at the term, where all values are 0, and makes the maps of the months in which nothing varies, from as many
-    /// steps as there are states and one for each stretch of them. From here on each month of the term is gone back
-    /// without memory.
+    /// Begins at the term, where all values are 0, and makes the maps of the months in which nothing varies, from as
+    /// many steps as there are states and one for each stretch of them. From here on each month of the term is gone
+    /// back without memory.
     pub fn prepare<L: Ledger>(
         alloc: Global,
         adm: &Admitted,
@@ -158,8 +158,8 @@ impl Sweep {
         self.months_left
     }
 
-    /// Adds the lumps of the date, and goes back one month: by its map and without a step where nothing varies, and else
-    /// by a step for each of its 32 cells. Takes no memory.
+    /// Adds the lumps of the date, and goes back one month: by its map and without a step where nothing varies, and
+    /// else by a step for each of its 32 cells. Takes no memory.
     pub fn month_back<L: Ledger>(&mut self, adm: &Admitted, steps: &mut Steps<L>) -> MonthRow
         requires left { 0 < self.old.months_left }
         requires product { adm.now ≡ self.old.product }
