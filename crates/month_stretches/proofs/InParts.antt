@@ -1,12 +1,13 @@
 -- A month's coefficients, kind by kind: all are constant, or keep their values, where those of each kind do.
-use Rattle.std.specs.Prelude.{◌≡◌, ℕ, ◌+◌, ℤ, Bool, true, false, ◌&&◌, List, ◌∷◌, ◌++◌, length, map}
+use Rattle.std.specs.Prelude.{◌≡◌, ℕ, ◌+◌, ◌<◌, ℤ, Bool, true, false, ◌&&◌, List, ◌∷◌, ◌++◌, length, map}
 use Rattle.std.specs.List.{list_all, zip}
 use Rattle.std.proofs.Common.{refl, ap, sym, ◌∙◌}
 use mathlib.Core.Path.{ap₂}
 use Rattle.std.proofs.lemmas.List.{length-append}
 use Rattle.std.proofs.lemmas.List.Folds.{list_all-append}
+use Rattle.std.proofs.lemmas.List.Sums.{list_all-from_AllPass}
 use Rattle.whole_laws.specs.Whole.{list_of}
-use Rattle.whole_laws.proofs.ListsByPlace.{length-list_of}
+use Rattle.whole_laws.proofs.ListsByPlace.{All-list_of, length-list_of}
 use Rattle.model_specs.specs.Curve.{piece_at}
 use Rattle.model_specs.specs.Product.{Product, Transition, no_transition}
 use Rattle.model_specs.specs.Payments.{Plan}
@@ -14,6 +15,18 @@ use Rattle.model_specs.specs.Stretches.{is_constant, is_constant_month, keeps_va
 use Rattle.month_stretches.specs.Parts.{interest_in, rate_in, sojourn_in, sum_in}
 use Rattle.month_stretches.specs.Parts.{are_constant, is_same, are_same}
 use Rattle.month_stretches.proofs.ListTests.{zip-append, zip-list_of, map_by_place}
+
+-- polynomials that are each constant
+pub all_constant : (n : ℕ) (numbers : ℕ → List ℤ) → ((k : ℕ) → k < n → is_constant (numbers k) ≡ true)
+    → true ≡ are_constant n numbers
+all_constant n numbers each = sym (list_all-from_AllPass is_constant (list_of n numbers)
+    (All-list_of (λ c. is_constant c ≡ true) n numbers each))
+
+-- and such as each begin with the same numbers
+pub all_same : (n : ℕ) (old new : ℕ → List ℤ) → ((k : ℕ) → k < n → is_same (old k, new k) ≡ true)
+    → true ≡ are_same n old new
+all_same n old new each = sym (list_all-from_AllPass is_same (list_of n (λ k. (old k, new k)))
+    (All-list_of (λ pair. is_same pair ≡ true) n (λ k. (old k, new k)) each))
 
 -- a test of four lists one after the other
 in_order : {A : Type 0} (test : A → Bool) (x : A) (xs ys zs : List A)

@@ -8,15 +8,6 @@ use Rattle.std.proofs.lemmas.Bool.{cases_lt}
 use Rattle.std.proofs.lemmas.List.Folds.{list_all_at}
 use Rattle.whole_laws.specs.Whole.{list_of}
 use Rattle.whole_laws.proofs.ListsByPlace.{at-list_of, length-list_of, list_of_places, map-list_of}
-use Rattle.whole_laws.proofs.Tests.{passes_both}
-
--- where each passes
-pub all_pass : {A : Type 0} (test : A → Bool) (n : ℕ) (f : ℕ → A) → ((k : ℕ) → k < n → test (f k) ≡ true)
-    → true ≡ list_all test (list_of n f)
-all_pass test zero f each = refl
-all_pass test (suc n) f each =
-    sym (passes_both (test (f 0)) (list_all test (list_of n (λ i. f (suc i)))) (each 0 (omega arith))
-    (sym (all_pass test n (λ i. f (suc i)) (λ k inside. each (suc k) (omega (arith, inside))))))
 
 -- where one fails
 pub one_fails : {A : Type 0} (test : A → Bool) (n : ℕ) (f : ℕ → A) (k : ℕ) → k < n → test (f k) ≡ false

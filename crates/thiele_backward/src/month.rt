@@ -9,7 +9,6 @@ ghost use Rattle.model_specs.specs.ValuationRules.{IsAdmissible};
 ghost use Rattle.rate_bounds.specs.MonthPay.{plan_named};
 ghost use Rattle.cell_coeffs.specs.Rows.{IsMadeForFirst};
 ghost use Rattle.constant_months.specs.Costs.{cell_steps};
-ghost use Rattle.thiele_backward.specs.MonthMaps.{IsMapOf};
 ghost use Rattle.thiele_backward.specs.StretchMaps.{IsMonthsMap, Varies};
 ghost use Rattle.thiele_backward.specs.MonthRuns.{IsNearAt, IsNearLumped, HasSome, StaysNearWithSpare, EnclosesMonth};
 

@@ -4,7 +4,8 @@ use Rattle.model_specs.specs.Stretches.{is_constant}
 use Rattle.payment_plan.specs.Payments.{plan_of}
 use Rattle.product_model.specs.Views.{payments_of}
 use Rattle.month_stretches.specs.Parts.{sojourn_in}
-use Rattle.month_stretches.proofs.ListTests.{all_pass, one_fails, more_pass}
+use Rattle.month_stretches.proofs.ListTests.{one_fails, more_pass}
+use Rattle.month_stretches.proofs.InParts.{all_constant}
 use Rattle.month_stretches.proofs.constant.sojourns_are_constant.Goals as goal
 
 pub loop-state-preserved : goal.loop-state-preserved
@@ -28,5 +29,5 @@ returns c =
     let plan = plan_of c.args.which (payments_of c.args.product.now) in
     let count : c.states-state-end.result
     ≡ length c.args.product.now.states = search rules in
-    all_pass is_constant (length c.args.product.now.states) (sojourn_in plan c.args.month)
+    all_constant (length c.args.product.now.states) (sojourn_in plan c.args.month)
     (λ k below. c.loop-state.invariant k (omega (arith, below, c.loop-state-test.false, count)))
