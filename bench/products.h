@@ -116,6 +116,26 @@ static void make_twelve(Product *p) {
     for (int m = 12; m <= 1200; m += 12) p->lump[p->lumps++] = (Lump){m, m / 12 % 12, 50000};
 }
 
+/* ---- a ring of eight states over a century, each left for the next one at the rate of 2, with 1000 a year in each:
+   nothing varies */
+
+static void make_ring(Product *p) {
+    p->name = "ring";
+    p->format = 1;
+    p->months = 1200;
+    p->den = 1000000;
+    p->states = 8;
+    p->interest = (Curve){1, {{0, {0}}}};
+    for (int i = 0; i < 8; i++) {
+        sprintf(p->state[i], "s%d", i);
+        p->sojourn[i] = (Piece){0, {1000}};
+        Link *l = &p->link[p->links++];
+        l->from = i;
+        l->to = (i + 1) % 8;
+        l->rate = (Curve){1, {{0, {2000000}}}};
+    }
+}
+
 /* ---- as a product file */
 
 static void print_numbers(const long long *c, int count) {

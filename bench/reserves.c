@@ -3,7 +3,7 @@
 // goes back over each cell. The ledgers of bounds and radii are left out: the scale g is an argument.
 //   reserves file PRODUCT           prints the product file
 //   reserves values PRODUCT G EVERY prints a line for each date and state: the midpoint in millionths, rounded down
-// PRODUCT is generated-7 or twelve.
+// PRODUCT is generated-7, twelve or ring.
 #include <stdlib.h>
 
 #include "cell_numbers.h"
@@ -81,6 +81,7 @@ int main(int argc, char **argv) {
     static Product p;
     if (argc < 3) return 2;
     if (strcmp(argv[2], "twelve") == 0) make_twelve(&p);
+    else if (strcmp(argv[2], "ring") == 0) make_ring(&p);
     else make_generated(&p, 7);
     if (argc == 3) print_product(&p);
     else if (argc == 5) reserves(&p, atoi(argv[3]), atoi(argv[4]));
