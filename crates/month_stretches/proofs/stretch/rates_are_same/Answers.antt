@@ -15,8 +15,10 @@ pub returns-then-not-is_same : goal.returns-then-not-is_same
 returns-then-not-is_same c =
     let count : c.transitions-transition-end.result
     ≡ length c.args.product.now.transitions = c.transitions-transition-end.ensures.count in
-    let fails : is_same (rate_in c.args.product.now c.args.month c.loop-transition.transition,
-    rate_in c.args.product.now (suc c.args.month) c.loop-transition.transition) ≡ false = search rules in
+    let fails : is_same (
+      rate_in c.args.product.now c.args.month c.loop-transition.transition,
+      rate_in c.args.product.now (suc c.args.month) c.loop-transition.transition,
+    ) ≡ false = search rules in
     one_fails is_same (length c.args.product.now.transitions)
     (λ k. (rate_in c.args.product.now c.args.month k, rate_in c.args.product.now (suc c.args.month) k))
     c.loop-transition.transition (omega (arith, c.loop-transition-test.true, count)) fails

@@ -19,8 +19,10 @@ returns-then-not-is_same c =
     let plan = plan_of c.args.which (payments_of c.args.product.now) in
     let count : c.states-state-end.result
     ≡ length c.args.product.now.states = search rules in
-    let fails : is_same (sojourn_in plan c.args.month c.loop-state.state,
-    sojourn_in plan (suc c.args.month) c.loop-state.state) ≡ false = search rules in
+    let fails : is_same (
+      sojourn_in plan c.args.month c.loop-state.state,
+      sojourn_in plan (suc c.args.month) c.loop-state.state,
+    ) ≡ false = search rules in
     one_fails is_same (length c.args.product.now.states)
     (λ k. (sojourn_in plan c.args.month k, sojourn_in plan (suc c.args.month) k))
     c.loop-state.state (omega (arith, c.loop-state-test.true, count)) fails

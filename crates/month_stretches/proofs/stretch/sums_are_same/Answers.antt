@@ -19,8 +19,10 @@ returns-then-not-is_same c =
     let plan = plan_of c.args.which (payments_of c.args.product.now) in
     let count : c.transitions-transition-end.result
     ≡ length c.args.product.now.transitions = c.transitions-transition-end.ensures.count in
-    let fails : is_same (sum_in plan c.args.month c.loop-transition.transition,
-    sum_in plan (suc c.args.month) c.loop-transition.transition) ≡ false = search rules in
+    let fails : is_same (
+      sum_in plan c.args.month c.loop-transition.transition,
+      sum_in plan (suc c.args.month) c.loop-transition.transition,
+    ) ≡ false = search rules in
     one_fails is_same (length c.args.product.now.transitions)
     (λ k. (sum_in plan c.args.month k, sum_in plan (suc c.args.month) k))
     c.loop-transition.transition (omega (arith, c.loop-transition-test.true, count)) fails
