@@ -43,7 +43,8 @@ cells_are_alike product plan month cell constant =
 
 pub stretches_keep_their_system : StretchesKeepTheirSystem
 stretches_keep_their_system product plan month constant goes_on =
-    let parts = both_pass (is_constant_month product plan month) (keeps_values product plan month (suc month)) goes_on in
+    let parts = both_pass (is_constant_month product plan month) (keeps_values product plan month (suc month))
+    goes_on in
     ap (scaled_system (plan_scaling product plan))
     (sym (thiele_same (cells_of_32 Backward) product plan month 0 (suc month) 0
     (cells_same (cells_of_32 Backward) product plan month 0 (suc month) 0 parts.0 constant

@@ -25,38 +25,39 @@ abbrev system_of : ℕ → List Matrix → List Vector → System
 system_of dimension matrices free = record { dimension = dimension; matrices = matrices; free = free }
 
 module _ (grid : Grid) (product : Product) (plan : Plan) (month cell other place : ℕ)
-    (same : HaveSameNumbers (cell_curves grid product plan month cell) (cell_curves grid product plan other place)) where
-  abbrev states : ℕ
-  states = length product.states
+    (same : HaveSameNumbers (cell_curves grid product plan month cell) (cell_curves grid product plan other place))
+  where
+    abbrev states : ℕ
+    states = length product.states
 
-  abbrev a : CellCurves
-  a = cell_curves grid product plan month cell
+    abbrev a : CellCurves
+    a = cell_curves grid product plan month cell
 
-  abbrev b : CellCurves
-  b = cell_curves grid product plan other place
+    abbrev b : CellCurves
+    b = cell_curves grid product plan other place
 
-  leaving_same : (i m : ℕ) → leaving_at a i m ≡ leaving_at b i m
-  leaving_same i m = sum_to_ext states (λ j inside. same.intensity i j m)
+    leaving_same : (i m : ℕ) → leaving_at a i m ≡ leaving_at b i m
+    leaving_same i m = sum_to_ext states (λ j inside. same.intensity i j m)
 
-  entry_same : (m i j : ℕ) → backward_entry a 1 m i j ≡ backward_entry b 1 m i j
-  entry_same m i j = ap₂ ◌+ℚ◌ (same.intensity i j m)
-      (ap₂ (λ r l. where_same i j (opposite (whole (pos 1) *ℚ r +ℚ l))) (same.interest m) (leaving_same i m))
+    entry_same : (m i j : ℕ) → backward_entry a 1 m i j ≡ backward_entry b 1 m i j
+    entry_same m i j = ap₂ ◌+ℚ◌ (same.intensity i j m)
+        (ap₂ (λ r l. where_same i j (opposite (whole (pos 1) *ℚ r +ℚ l))) (same.interest m) (leaving_same i m))
 
-  paid_same : (i j m : ℕ) → first_payment_at a i j m ≡ first_payment_at b i j m
-  paid_same i j m = sum_to_ext (suc m) (λ k inside. ap₂ ◌*ℚ◌ (same.intensity i j k) (same.sums i j (m - k)))
+    paid_same : (i j m : ℕ) → first_payment_at a i j m ≡ first_payment_at b i j m
+    paid_same i j m = sum_to_ext (suc m) (λ k inside. ap₂ ◌*ℚ◌ (same.intensity i j k) (same.sums i j (m - k)))
 
-  free_same : (m i : ℕ) → i < states
-      → sojourn_rate_at a i m +ℚ sum_to states (λ j. first_payment_at a i j m)
-      ≡ sojourn_rate_at b i m +ℚ sum_to states (λ j. first_payment_at b i j m)
-  free_same m i inside =
-      ap₂ ◌+ℚ◌ (same.sojourn i m inside) (sum_to_ext states (λ j below. paid_same i j m))
+    free_same : (m i : ℕ) → i < states
+        → sojourn_rate_at a i m +ℚ sum_to states (λ j. first_payment_at a i j m)
+        ≡ sojourn_rate_at b i m +ℚ sum_to states (λ j. first_payment_at b i j m)
+    free_same m i inside =
+        ap₂ ◌+ℚ◌ (same.sojourn i m inside) (sum_to_ext states (λ j below. paid_same i j m))
 
-  pub thiele_same : thiele_system a ≡ thiele_system b
-  thiele_same = ap₂ (system_of states)
-      (list_of-agree 6 (λ m. matrix_of states (backward_entry a 1 m)) (λ m. matrix_of states (backward_entry b 1 m))
-      (λ m low. list_of-agree states _ _
-      (λ i row. list_of-agree states (backward_entry a 1 m i) (backward_entry b 1 m i) (λ j col. entry_same m i j))))
-      (list_of-agree 9
-      (λ m. vector_of states (λ i. sojourn_rate_at a i m +ℚ sum_to states (λ j. first_payment_at a i j m)))
-      (λ m. vector_of states (λ i. sojourn_rate_at b i m +ℚ sum_to states (λ j. first_payment_at b i j m)))
-      (λ m low. list_of-agree states _ _ (λ i row. free_same m i row)))
+    pub thiele_same : thiele_system a ≡ thiele_system b
+    thiele_same = ap₂ (system_of states)
+        (list_of-agree 6 (λ m. matrix_of states (backward_entry a 1 m)) (λ m. matrix_of states (backward_entry b 1 m))
+        (λ m low. list_of-agree states _ _
+        (λ i row. list_of-agree states (backward_entry a 1 m i) (backward_entry b 1 m i) (λ j col. entry_same m i j))))
+        (list_of-agree 9
+        (λ m. vector_of states (λ i. sojourn_rate_at a i m +ℚ sum_to states (λ j. first_payment_at a i j m)))
+        (λ m. vector_of states (λ i. sojourn_rate_at b i m +ℚ sum_to states (λ j. first_payment_at b i j m)))
+        (λ m low. list_of-agree states _ _ (λ i row. free_same m i row)))

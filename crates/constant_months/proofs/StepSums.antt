@@ -22,7 +22,8 @@ choice_splits true made cells = omega arith
 choice_splits false made cells = omega arith
 
 module _ (product : Product) (plan : Plan) where
-  month_splits : (month : ℕ) → month_cost product plan month ≡ map_steps product plan month + cell_steps product plan month
+  month_splits : (month : ℕ)
+      → month_cost product plan month ≡ map_steps product plan month + cell_steps product plan month
   month_splits month = choice_splits (is_constant_month product plan month)
       (if continues_stretch product plan month then 0 else length product.states + 1) cells_of_month
 

@@ -2,8 +2,8 @@
 
 ghost use Rattle.constant_months.specs.Costs.{CostsSplit, StepsAreFew, CostsAreSmall};
 
-/// The cost is what the maps of the stretches take and what the cells of the months that vary take; both together are at
-/// most 32 steps a month.
+/// The cost is what the maps of the stretches take and what the cells of the months that vary take; both together are
+/// at most 32 steps a month.
 pub fn costs_split()
     ensures split { CostsSplit }
     ensures few { StepsAreFew }

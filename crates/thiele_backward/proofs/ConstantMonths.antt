@@ -120,7 +120,8 @@ module _ (which : Which) (product : Product) (month : ℕ) (admissible : IsAdmis
 
   -- the numbers that the map is applied to fit
   pub lumped_most : (numbers : List ℤ) → HasSome (IsNearLumped product plan month numbers) → AreAtMost (2 ^ 65) numbers
-  lumped_most numbers some = numbers_fit which product month 0 admissible inside (omega arith) least_degree (omega arith)
+  lumped_most numbers some =
+      numbers_fit which product month 0 admissible inside (omega arith) least_degree (omega arith)
       numbers numbers (begins_near product plan month least_degree numbers) some
 
   -- what the map makes of numbers is near each run, with a unit to spare
