@@ -3,6 +3,8 @@ ghost use Rattle.std.specs.Prelude.{◌≡◌, ◌+◌, ◌*◌, ◌^◌, ◌<�
 ghost use Rattle.std.specs.Prelude.{OnOk, OnErr};
 ghost use Rattle.portfolio_run.specs.Holdings.{Holding};
 ghost use Rattle.named_numbers.specs.Numbers.{cells_of_month};
+ghost use Rattle.model_specs.specs.Payments.{payment_plan};
+ghost use Rattle.model_specs.specs.Stretches.{cost};
 ghost use Rattle.state_graph.specs.StateGraphs.{texts_of};
 ghost use Rattle.portfolio_run.specs.Readings.{files_of};
 ghost use Rattle.portfolio_run.specs.Totals.{AreTotals, TellsUncovered};
@@ -115,7 +117,7 @@ impl Policies {
         requires count { steps.old + cells_of_month * adm.now.months < 2 ^ 63 }
         ensures ok { OnOk result (AddsValued adm.now self.old self.new) }
         ensures err { OnErr result (self.new ≡ self.old) }
-        ensures steps { steps.new ≤ steps.old + cells_of_month * adm.now.months }
+        ensures steps { steps.new ≤ steps.old + cost adm.now (payment_plan adm.now) }
     {
         let valued = ValuedFile::value(self.alloc, adm, steps)?;
         self.valued.push(valued)?;

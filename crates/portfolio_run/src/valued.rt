@@ -1,6 +1,8 @@
 // A product file as it was valued.
 ghost use Rattle.std.specs.Prelude.{◌≡◌, ◌≤◌, ◌<◌, ◌+◌, ◌*◌, ◌^◌, All, length, IfErr, IfOk};
 ghost use Rattle.named_numbers.specs.Numbers.{cells_of_month};
+ghost use Rattle.model_specs.specs.Payments.{payment_plan};
+ghost use Rattle.model_specs.specs.Stretches.{cost};
 ghost use Rattle.whole_laws.specs.Whole.{list_of};
 ghost use Rattle.state_graph.specs.StateGraphs.{texts_of};
 ghost use Rattle.claim_audit.specs.Audits.{tolerance_at};
@@ -118,7 +120,7 @@ fn place_in(names: &[Vec<u8>], name: &[u8]) -> usize
 }
 
 impl ValuedFile {
-    /// Takes the reserves of every month. It takes at most 32 steps a month.
+    /// Takes the reserves of every month. It takes the steps of the reserves.
     pub fn value<L: Ledger>(
         alloc: Global,
         adm: &Admitted,
@@ -127,7 +129,7 @@ impl ValuedFile {
         requires count { steps.old + cells_of_month * adm.now.months < 2 ^ 63 }
         ensures product { IfOk result (λ valued. valued.product ≡ adm.now) }
         ensures valued { IfOk result IsValued }
-        ensures steps { steps.new ≤ steps.old + cells_of_month * adm.now.months }
+        ensures steps { steps.new ≤ steps.old + cost adm.now (payment_plan adm.now) }
     {
         let product = adm.product();
         let months = product.months();
