@@ -4,10 +4,12 @@ pub mod Comparisons
 pub mod Ends
 pub mod Fetches
 pub mod JointFiles
+pub mod Loads
 pub mod MonthGrids
 pub mod Outcome
 pub mod Premiums
 pub mod Questions
 pub mod Refusals
 pub mod Replies
+pub mod Valuations
 pub mod Verdicts

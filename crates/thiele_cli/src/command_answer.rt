@@ -8,6 +8,7 @@ ghost use Rattle.thiele_cli.specs.AskedAnswers.{AnswersAsked};
 use crate::answer::Answer;
 use crate::fault::Fault;
 use crate::fetching::file_verdict;
+use crate::loading::loaded_answer;
 use crate::pair_question::{PairQuestion, pair_answer};
 use crate::question::{Question, product_answer};
 use crate::refusal::Refusal;
@@ -105,6 +106,7 @@ pub fn command_answer<H: Shelf>(
         }
         Command::Premium(name) => named_answer(alloc, Question::Premium, name, shelf),
         Command::Generate(seed) => Ok(seed_answer(alloc, seed)?),
+        Command::Load(seed) => Ok(loaded_answer(alloc, seed)?),
         Command::Upgrade(name) => named_answer(alloc, Question::Upgraded, name, shelf),
         Command::Join(first, second) => {
             two_named_answer(alloc, PairQuestion::Joined, first, second, shelf)

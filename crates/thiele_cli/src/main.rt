@@ -9,6 +9,7 @@ mod fault;
 mod fetching;
 mod file_break;
 mod joining;
+mod loading;
 mod pair_question;
 mod pieces;
 mod question;
