@@ -3,6 +3,7 @@ pub mod Cases
 pub mod Comparisons
 pub mod Ends
 pub mod Fetches
+pub mod Inquiries
 pub mod JointFiles
 pub mod Loads
 pub mod MonthGrids

@@ -8,6 +8,7 @@ mod end;
 mod fault;
 mod fetching;
 mod file_break;
+mod inquiry;
 mod joining;
 mod loading;
 mod pair_question;
