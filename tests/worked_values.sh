@@ -124,6 +124,15 @@ same = ran.returncode == 0 and tomllib.loads(ran.stdout) == tomllib.loads(outsid
 passed, failed = passed + same, failed + (not same)
 if not same:
     print("FAILED generate 7: another tree than that of generated-7.toml")
+# what is told of its reserves in three lines: 66 dates in three states, and the widest row of the report
+report = subprocess.run([program, "reserves", "generated-7.toml", "12"], cwd=folder, capture_output=True, text=True).stdout
+widths = [round((Fraction(high) - Fraction(low)) * 10**6) for low, high, *_ in rows_of(report.split("\n")).values()]
+summed = ["load generated-7", report.split("\n")[1], f"rows 198 widest {max(widths, default=0) / 10**6:.6f}", ""]
+told = subprocess.run([program, "load", "7"], capture_output=True, text=True).stdout.split("\n")
+same = told == summed and len(widths) == 198
+passed, failed = passed + same, failed + (not same)
+if not same:
+    print("FAILED load 7: wanted", *summed, "found", *told, sep="\n  ")
 
 
 def value_of(text):

@@ -3,7 +3,7 @@ use Rattle.std.proofs.Common.{◌≡◌, ℕ, ◌+◌, ◌*◌, ◌<◌, ◌^◌
 use Rattle.std.specs.Prelude.{◌==◌, if◌then◌else◌}
 use Rattle.std.proofs.lemmas.Fmt.{decimal_injective}
 use Rattle.command_words.specs.Readings.{Request, Check, Value, Reserves, Occupancy, Moments, Premium, Generate}
-use Rattle.command_words.specs.Readings.{Upgrade, Join, Compare, AreReadAs, ReadingsAreOne}
+use Rattle.command_words.specs.Readings.{Load, Upgrade, Join, Compare, AreReadAs, ReadingsAreOne}
 
 -- a word by its place, and the first two letters of the first word, as one number
 abbrev word-at : ℕ → List (List ℕ) → List ℕ
@@ -19,14 +19,16 @@ make first file second number =
     else (if first == 112114 then Premium file else (if first == 114101 then Reserves file number
     else (if first == 111099 then Occupancy file number else (if first == 109111 then Moments file number
     else (if first == 99111 then Compare file second number else (if first == 117112 then Upgrade file
-    else (if first == 106111 then Join file second else Generate number))))))))
+    else (if first == 106111 then Join file second else (if first == 108111 then Load number
+    else Generate number)))))))))
 
--- where its number stands: the second word of a seed, the third or fourth of requests at dates, and else nowhere
+-- where its number stands: the second word where there is a seed, the third or fourth of requests at dates, and else nowhere
 abbrev text : ℕ → List (List ℕ) → List ℕ
 text first words =
     if first == 114101 then word-at 2 words else (if first == 111099 then word-at 2 words
     else (if first == 109111 then word-at 2 words else (if first == 103101 then word-at 1 words
-    else (if first == 99111 then word-at 3 words else decimal 0))))
+    else (if first == 108111 then word-at 1 words
+    else (if first == 99111 then word-at 3 words else decimal 0)))))
 
 abbrev number-of : Request → ℕ
 number-of (Check file) = 0
@@ -36,6 +38,7 @@ number-of (Occupancy file every) = every
 number-of (Moments file every) = every
 number-of (Premium file) = 0
 number-of (Generate seed) = seed
+number-of (Load seed) = seed
 number-of (Upgrade file) = 0
 number-of (Join first second) = 0
 number-of (Compare first second every) = every
@@ -49,6 +52,7 @@ made words (Occupancy file every) a = rw (ap letters a.are, ap (word-at 1) a.are
 made words (Moments file every) a = rw (ap letters a.are, ap (word-at 1) a.are) refl
 made words (Premium file) a = rw (ap letters a.are, ap (word-at 1) a.are) refl
 made words (Generate seed) a = rw (ap letters a.are) refl
+made words (Load seed) a = rw (ap letters a.are) refl
 made words (Upgrade file) a = rw (ap letters a.are, ap (word-at 1) a.are) refl
 made words (Join first second) a = rw (ap letters a.are, ap (word-at 1) a.are, ap (word-at 2) a.are) refl
 made words (Compare first second every) a =
@@ -63,6 +67,7 @@ written words (Occupancy file every) a = rw (ap letters a.are) (sym (ap (word-at
 written words (Moments file every) a = rw (ap letters a.are) (sym (ap (word-at 2) a.are))
 written words (Premium file) a = rw (ap letters a.are) refl
 written words (Generate seed) a = rw (ap letters a.are) (sym (ap (word-at 1) a.are))
+written words (Load seed) a = rw (ap letters a.are) (sym (ap (word-at 1) a.are))
 written words (Upgrade file) a = rw (ap letters a.are) refl
 written words (Join first second) a = rw (ap letters a.are) refl
 written words (Compare first second every) a = rw (ap letters a.are) (sym (ap (word-at 3) a.are))
@@ -75,6 +80,7 @@ fits words (Occupancy file every) a = omega (arith, a.most)
 fits words (Moments file every) a = omega (arith, a.most)
 fits words (Premium file) a = lit< tt
 fits words (Generate seed) a = a.fits
+fits words (Load seed) a = a.fits
 fits words (Upgrade file) a = lit< tt
 fits words (Join first second) a = lit< tt
 fits words (Compare first second every) a = omega (arith, a.most)

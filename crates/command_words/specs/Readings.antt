@@ -15,6 +15,7 @@ pub data Request : Type 0 where
   Moments : List ℕ → ℕ → Request
   Premium : List ℕ → Request
   Generate : ℕ → Request
+  Load : ℕ → Request
   Upgrade : List ℕ → Request
   Join : List ℕ → List ℕ → Request
   Compare : List ℕ → List ℕ → ℕ → Request
@@ -45,9 +46,9 @@ pub record AsksOfFilesAtDates (words : List (List ℕ)) (command first second : 
   pub least : 1 ≤ every
   pub most : every ≤ 1200
 
--- the words are `generate` and a number below 2^64 in decimal
-pub record AsksOfSeed (words : List (List ℕ)) (seed : ℕ) : Type 0 where
-  pub are : words ≡ codes "generate" ∷ decimal seed ∷ []
+-- the words are a command and a number below 2^64 in decimal
+pub record AsksOfSeed (words : List (List ℕ)) (command : List ℕ) (seed : ℕ) : Type 0 where
+  pub are : words ≡ command ∷ decimal seed ∷ []
   pub fits : seed < 2 ^ 64
 
 -- the words are read as this request; decimal numbers have no needless zeros
@@ -58,7 +59,8 @@ AreReadAs words (Reserves file every) = AsksAtDates words (codes "reserves") fil
 AreReadAs words (Occupancy file every) = AsksAtDates words (codes "occupancy") file every
 AreReadAs words (Moments file every) = AsksAtDates words (codes "moments") file every
 AreReadAs words (Premium file) = AsksOfFile words (codes "premium") file
-AreReadAs words (Generate seed) = AsksOfSeed words seed
+AreReadAs words (Generate seed) = AsksOfSeed words (codes "generate") seed
+AreReadAs words (Load seed) = AsksOfSeed words (codes "load") seed
 AreReadAs words (Upgrade file) = AsksOfFile words (codes "upgrade") file
 AreReadAs words (Join first second) = AsksOfFiles words (codes "join") first second
 AreReadAs words (Compare first second every) = AsksOfFilesAtDates words (codes "compare") first second every

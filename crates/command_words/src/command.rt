@@ -26,6 +26,8 @@ pub enum Command<'a> {
     Premium(&'a str),
     /// Print the product file that is generated from a seed.
     Generate(u64),
+    /// The reserves of the product that is generated from a seed, summed up in three lines.
+    Load(u64),
     /// Print the product as a file of format 2.
     Upgrade(&'a str),
     /// Print both products as one, the chain of the pairs of their states.
@@ -42,6 +44,12 @@ fn two_words<'a>(command: &str, word: &'a str) -> Option<Command<'a>>
     if command == "generate" {
         return match number_of(word) {
             Some(seed) => Some(Command::Generate(seed)),
+            None => None,
+        };
+    }
+    if command == "load" {
+        return match number_of(word) {
+            Some(seed) => Some(Command::Load(seed)),
             None => None,
         };
     }

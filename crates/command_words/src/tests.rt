@@ -22,6 +22,8 @@ fn words_and_their_readings(rt: HostRuntime) {
         ("join a b", Some(Command::Join("a", "b"))),
         ("compare a b 12", Some(Command::Compare("a", "b", 12))),
         ("generate 0", Some(Command::Generate(0))),
+        ("load 7", Some(Command::Load(7))),
+        ("load 07", None),
         (
             "generate 18446744073709551615",
             Some(Command::Generate(18_446_744_073_709_551_615)),
@@ -47,7 +49,6 @@ fn words_and_their_readings(rt: HostRuntime) {
         ("value a b", None),
         ("Value a", None),
         ("--help", None),
-        ("load 7", None),
     ];
     for (line, wanted) in cases {
         let Ok(words) = split(rt.alloc(), line) else {

@@ -18,6 +18,7 @@ use Rattle.ledger_laws.specs.BeforeTermLaws.{radius_cells, second_cells, KeepsRa
 use Rattle.ledger_laws.proofs.BeforeTerm.{radius_small, second_fourfold}
 use Rattle.ledger_laws.proofs.BoundFacts.{scale_bounds_ledger}
 use Rattle.ledger_laws.proofs.MonthFacts.{admissible_obeys}
+use Rattle.linear_system.specs.DegreeLimit.{IsConstant}
 use Rattle.linear_system.specs.StandsFor.{StandsForPair}
 use Rattle.linear_system.specs.StoredSystem.{StoredSystem}
 use Rattle.taylor_step.specs.CanStep.{CanStep, in_pair, AreAtMost}
@@ -89,6 +90,16 @@ module _ (product : Product) (months done : ℕ) (admissible : IsAdmissible prod
       → AreNearIn product highest_degree months done mid → CanStep s mid
   can_step s mid stands long near =
       in_pair (length product.states) e (kappa40 product month) (coupling_of product plan month) stands is_tame
+      (numbers_fit mid long near)
+
+  -- where nothing varies, the step answers at most 9
+  pub constant_here : (s : StoredSystem) (mid : List ℤ) → StandsForPair s (length product.states) e
+      → length mid ≡ length product.states + length product.states
+      → AreNearIn product highest_degree months done mid → (answered : ℕ)
+      → ((half : ℕ) (p : CoupledPair) (kappa : ℕ) (c : Fraction) → IsConstant s → StandsForPair s half p
+      → IsTamePair kappa c p → AreAtMost (2 ^ 64 + 2 ^ 45) mid → answered ≤ 9) → IsConstant s → answered ≤ 9
+  constant_here s mid stands long near answered promise constant =
+      promise (length product.states) e (kappa40 product month) (coupling_of product plan month) constant stands is_tame
       (numbers_fit mid long near)
 
   -- after the step each run is near the new numbers

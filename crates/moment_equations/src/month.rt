@@ -1,8 +1,10 @@
 //! A month backward, of both moments.
 
-ghost use Rattle.std.specs.Prelude.{◌≡◌, ℕ, ◌+◌, ◌^◌, ◌<◌, ◌≤◌, length};
+ghost use Rattle.std.specs.Prelude.{◌≡◌, ℕ, ◌+◌, ◌^◌, ◌<◌, ◌≤◌, length, IsTrue};
 ghost use Rattle.named_numbers.specs.Numbers.{cells_of_month, least_degree, highest_degree};
 ghost use Rattle.linear_system.specs.Setting.{HaveSamePlaces};
+ghost use Rattle.model_specs.specs.Payments.{payment_plan};
+ghost use Rattle.model_specs.specs.Stretches.{is_constant_month};
 ghost use Rattle.cell_coeffs.specs.PairRows.{IsMadeForMoments};
 ghost use Rattle.moment_equations.specs.NearMoments.{months_behind, AreNear, AreNearIn, StaysNear, EnclosesMonth};
 
@@ -49,6 +51,7 @@ fn cells_over<L: Ledger>(
     ensures near { StaysNear adm.now (months_behind adm.now month) result cells_of_month mid.old mid.new }
     ensures least { least_degree ≤ result }
     ensures highest { result ≤ highest_degree }
+    ensures constant { IsTrue (is_constant_month adm.now (payment_plan adm.now) month) → result ≤ least_degree + 1 }
     ensures count { steps.new ≡ steps.old + cells_of_month }
     ensures work { work.new ≡ work.old }
     ensures places { HaveSamePlaces system.old system.new }
@@ -83,6 +86,7 @@ pub(crate) fn month_over<L: Ledger>(
     ensures near { EnclosesMonth adm.now (months_behind adm.now month) result mid.old mid.new }
     ensures least { least_degree ≤ result }
     ensures highest { result ≤ highest_degree }
+    ensures constant { IsTrue (is_constant_month adm.now (payment_plan adm.now) month) → result ≤ least_degree + 1 }
     ensures count { steps.new ≡ steps.old + cells_of_month }
     ensures work { work.new ≡ work.old }
     ensures places { HaveSamePlaces system.old system.new }

@@ -6,6 +6,7 @@ ghost use Rattle.cell_coeffs.specs.PairRows.{IsMadeForMoments};
 ghost use Rattle.limit_laws.specs.Modulus.{ReservesConverge, SecondMomentsConverge};
 ghost use Rattle.limit_laws.specs.Defect.{NearlySolvesThiele, NearlySolvesNorberg};
 ghost use Rattle.model_specs.specs.Payments.{payment_plan};
+ghost use Rattle.thiele_backward.specs.Results.{AreConstantMonths};
 ghost use Rattle.moment_equations.specs.Dates.{HaveDatesFrom};
 ghost use Rattle.moment_equations.specs.Results.{AreMoments};
 
@@ -57,6 +58,7 @@ fn sweep<L: Ledger>(
     ensures dates { HaveDatesFrom adm.now every 0 result first.new second.new variance.new }
     ensures least { least_degree ≤ result }
     ensures highest { result ≤ highest_degree }
+    ensures constant { AreConstantMonths adm.now (payment_plan adm.now) → result ≤ least_degree + 1 }
     ensures count { steps.new ≡ steps.old + cells_of_month * adm.now.months }
 {
     let months = adm.product().months();
@@ -88,6 +90,10 @@ pub fn moments<L: Ledger>(
     requires every { 0 < every }
     requires count { steps.old + cells_of_month * adm.now.months < 2 ^ 63 }
     ensures moments { IfOk result (AreMoments adm.now every) }
+
+    // Where all rates and payments are constant over the term.
+    ensures constant { AreConstantMonths adm.now (payment_plan adm.now)
+        → IfOk result (λ table. table.first.degree ≤ least_degree + 1) }
 
     // The moments of two degrees from 8 on differ, the first ones by at most G W / 2^13, divided by 8^n, the second
     // ones by at most 4^g Ws / 2^13, divided by 8^n, W and Ws being the radii of the date. The run of degree n solves

@@ -1,5 +1,6 @@
 mod Parts
 mod Reported
+mod ReportWidths
 mod RightRows
 mod RowLines
 mod Shapes

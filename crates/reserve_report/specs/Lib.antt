@@ -1,5 +1,6 @@
 pub mod CheckText
 pub mod Limits
+pub mod LoadText
 pub mod ReportText
 pub mod Reports
 pub mod Results

@@ -54,6 +54,7 @@ fn issue_row(adm: &Admitted, what: What, ends: &Printed) -> Note
 pub fn from_value(alloc: Global, adm: &Admitted, v: &Valued) -> Result<Report, AllocError>
     requires { IsValueOf adm.now v.now }
     ensures report { IfOk result (IsReport adm.now Kind.Value 1) }
+    ensures degree { IfOk result (λ report. report.degree ≡ v.now.degree) }
     ensures text { IfOk result (HasText adm.now) }
 {
     let row = issue_row(adm, What::Value, &v.interval.printed());
@@ -78,6 +79,7 @@ pub fn from_table(
     requires table { IsTableOf adm.now kind t.now }
     ensures report { IfOk result (IsReport adm.now kind t.now.every) }
     ensures rows { IfOk result (TellsTable kind t.now) }
+    ensures degree { IfOk result (λ report. report.degree ≡ t.now.degree) }
     ensures text { IfOk result (HasText adm.now) }
 {
     let _months = adm.product().months();
@@ -96,6 +98,7 @@ pub fn from_moments(alloc: Global, adm: &Admitted, t: &MomentTable) -> Result<Re
     requires every { 0 < t.now.first.every }
     requires moments { AreMomentsOf adm.now t.now }
     ensures report { IfOk result (IsReport adm.now Kind.Moments t.now.first.every) }
+    ensures degree { IfOk result (λ report. report.degree ≡ t.now.first.degree) }
     ensures text { IfOk result (HasText adm.now) }
 {
     let _months = adm.product().months();

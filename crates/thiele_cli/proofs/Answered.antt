@@ -16,9 +16,10 @@ use Rattle.thiele_cli.specs.declared.pair_question.PairQuestion.{PairQuestion}
 use Rattle.thiele_cli.specs.declared.refusal.Refusal.TheVariants as refusal
 use Rattle.thiele_cli.specs.declared.verdict.Verdict.{Verdict}
 use Rattle.thiele_cli.specs.declared.verdict.Verdict.TheVariants as verdict
-use Rattle.thiele_cli.specs.Questions.{OfFile, OfFiles, OfSeed, asked_of}
+use Rattle.thiele_cli.specs.Questions.{OfFile, OfFiles, OfSeed, LoadOf, asked_of}
 use Rattle.thiele_cli.specs.Cases.{Files, IsLong, AreBytesOf, HasFault, HasProduct}
-use Rattle.thiele_cli.specs.Cases.{NoReading, Generated, FirstRefused, SecondRefused, Answered, AnsweredOfTwo}
+use Rattle.thiele_cli.specs.Loads.{IsLoaded}
+use Rattle.thiele_cli.specs.Cases.{NoReading, Generated, Loaded, FirstRefused, SecondRefused, Answered, AnsweredOfTwo}
 use Rattle.thiele_cli.specs.Replies.{AnswersQuestion, AnswersOfTwo, IsGenerated}
 use Rattle.thiele_cli.specs.Ends.{IsAnswer}
 use Rattle.thiele_cli.specs.AskedAnswers.{AnswersAsked}
@@ -105,6 +106,11 @@ answered_pair files question first second old new given has_old has_new says = r
 pub seed_answers : (files : Files) (seed : ℕ) (given : Answer) → IsGenerated seed given
     → AnswersAsked files (OfSeed seed) given
 seed_answers files seed given says = record { case = Generated seed; holds = refl; says = says }
+
+-- and so are its reserves
+pub load_answers : (files : Files) (seed : ℕ) (given : Answer) → IsLoaded seed given
+    → AnswersAsked files (LoadOf seed) given
+load_answers files seed given says = record { case = Loaded seed; holds = refl; says = says }
 
 -- ---- words
 

@@ -5,11 +5,18 @@ use Rattle.rule_breaks.specs.declared.breaks.RuleBreak.{RuleBreak}
 use Rattle.model_specs.specs.Product.{Product}
 use Rattle.model_specs.specs.ValuationRules.{IsAdmissible, first_broken}
 use Rattle.basis_compare.specs.declared.change_rows.Changes.{Changes}
+use Rattle.basis_compare.specs.declared.differing.CompareBreak.{CompareBreak}
 use Rattle.basis_compare.specs.Bases.{hybrid_of, first_difference, BreaksAtMostTheLastRule}
 use Rattle.basis_compare.specs.Changes.{AreChanges}
 use Rattle.thiele_cli.specs.declared.answer.Answer.TheVariants as answer
 use Rattle.thiele_cli.specs.declared.refusal.Refusal.TheVariants as refusal
 use Rattle.thiele_cli.specs.Comparisons.{AnswersComparison}
+
+-- bases that differ are refused
+pub bases_refused : (old new : Product) (every : ℕ) (broken : CompareBreak)
+    → first_difference old new ≡ Some broken
+    → AnswersComparison old new every (answer.Refused (refusal.Compare broken))
+bases_refused old new every broken first = inl (record { broken = broken; answers = refl; first = first })
 
 -- a hybrid that is not admitted is refused
 pub no_hybrid : (old new between : Product) (every : ℕ) (found : RuleBreak) → between ≡ hybrid_of old new

@@ -1,5 +1,5 @@
 -- The rows of a table that holds the reserves by whole months hold them.
-use Rattle.std.proofs.Common.{◌≡◌, ℕ, zero, suc, ◌+◌, ◌*◌, ◌/◌, ◌%◌, ◌<◌, ◌≤◌, length, sym, subst, arith, refl, pos}
+use Rattle.std.proofs.Common.{◌≡◌, ℕ, zero, suc, ◌+◌, ◌*◌, ◌/◌, ◌%◌, ◌<◌, ◌≤◌, length, sym, subst, arith, pos}
 use Rattle.std.specs.Prelude.{All, slice_index_or}
 use Rattle.std.proofs.Math.Nat.{div-add-mod, div-lt_iff_lt-mul, mod-lt}
 use Rattle.fixed_interval.specs.declared.printed.Printed.{Printed}
@@ -8,17 +8,16 @@ use Rattle.fixed_interval.specs.Printing.{LiesBetween}
 use Rattle.model_specs.specs.Product.{Product}
 use Rattle.model_specs.specs.Payments.{payment_plan}
 use Rattle.model_specs.specs.Runs.{month_grid_reserve}
-use Rattle.thiele_backward.specs.Results.{AreReserves}
+use Rattle.named_numbers.specs.Numbers.{least_degree}
+use Rattle.thiele_backward.specs.Results.{AreReserves, AreConstantMonths}
 use Rattle.grid_law.specs.MonthReserves.{HoldMonthGrid}
 use Rattle.report_columns.specs.declared.note.What.TheVariants as what
 use Rattle.reserve_report.specs.declared.report.Kind.TheVariants as kind
 use Rattle.reserve_report.specs.declared.report.Report.{Report}
 use Rattle.reserve_report.specs.Reports.{IsReport}
 use Rattle.reserve_report.specs.TableRows.{TellsTable, row_at}
-use Rattle.thiele_cli.specs.declared.answer.Answer.TheVariants as answer
-use Rattle.thiele_cli.specs.declared.question.Question.TheVariants.{Reserves}
-use Rattle.thiele_cli.specs.MonthGrids.{HoldsByMonths}
-use Rattle.thiele_cli.specs.Replies.{AnswersQuestion}
+use Rattle.thiele_cli.specs.MonthGrids.{HoldsByMonths, IsReserveReport}
+use Rattle.thiele_cli.proofs.Reported.{valuation_of, at_most}
 use Rattle.whole_laws.proofs.ListsByPlace.{All-list_of}
 
 -- a place of a table is a date and a state
@@ -55,17 +54,16 @@ row_holds product every t reserves months place inside n from =
     same_place : (place states : ℕ) → place / states * states + place % states ≡ place
     same_place place states = omega (arith, div-add-mod place states)
 
--- the report of such a table answers what is asked of reserves
+-- the report of such a table is one of reserves
 pub reserves_are_reported : (product : Product) (report : Report) (t : Table) (every : ℕ)
     → AreReserves product every t → HoldMonthGrid product every t → IsReport product kind.Reserves t.every report
-    → TellsTable kind.Reserves t report → AnswersQuestion (Reserves every) product (answer.Report product report)
-reserves_are_reported product report t every reserves months right tells = (
-  report,
-  refl,
-  record {
-    is_report = subst (λ dates. IsReport product kind.Reserves dates report) reserves.every_is right;
-    by_months = subst (All (HoldsByMonths product)) (sym tells)
-        (All-list_of (HoldsByMonths product) (length t.cells.items) (row_at what.Reserve t)
-        (λ place inside. row_holds product every t reserves months place inside));
-  },
-)
+    → TellsTable kind.Reserves t report → report.degree ≡ t.degree
+    → (AreConstantMonths product (payment_plan product) → t.degree ≡ least_degree)
+    → IsReserveReport product every report
+reserves_are_reported product report t every reserves months right tells is constant = record {
+  valuation = valuation_of product kind.Reserves report t.every every t.degree reserves.every_is right is
+      (λ all. at_most t.degree least_degree (constant all));
+  by_months = subst (All (HoldsByMonths product)) (sym tells)
+      (All-list_of (HoldsByMonths product) (length t.cells.items) (row_at what.Reserve t)
+      (λ place inside. row_holds product every t reserves months place inside));
+}

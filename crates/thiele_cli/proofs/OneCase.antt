@@ -8,7 +8,7 @@ use Rattle.product_file.specs.Verdict.{IsNotToml, Breaks}
 use Rattle.command_words.proofs.Readings.{readings_are_one}
 use Rattle.thiele_cli.specs.declared.file_break.FileBreak.{FileBreak}
 use Rattle.thiele_cli.specs.declared.file_break.FileBreak.TheVariants as file
-use Rattle.thiele_cli.specs.Questions.{Asked, OfFile, OfFiles, OfSeed, asked_of}
+use Rattle.thiele_cli.specs.Questions.{Asked, OfFile, OfFiles, OfSeed, LoadOf, asked_of}
 use Rattle.thiele_cli.specs.Cases.{Files, IsLong, AreBytesOf, HasFault, HasProduct}
 use Rattle.thiele_cli.specs.Cases.{Case, FirstRefused, SecondRefused, Answered, AnsweredOfTwo}
 use Rattle.thiele_cli.specs.Cases.{IsFileCase, IsSecondCase, IsAskedCase, IsCase}
@@ -95,6 +95,7 @@ one_asked_case files (OfFiles what first second) a b x y =
     (λ old c d s t. one_file_case files second SecondRefused (λ new rest. rest ≡ AnsweredOfTwo what old new) c d
     (λ new e f u v. u ∙ sym v) s t) x y
 one_asked_case files (OfSeed seed) a b x y = x ∙ sym y
+one_asked_case files (LoadOf seed) a b x y = x ∙ sym y
 
 -- words over told files are of one case
 pub one_case : (files : Files) (words : List (List ℕ)) (a b : Case) → IsSome files → IsCase files words a

@@ -1,12 +1,13 @@
 -- The premium and its refusal, from what the solver answers.
 use Rattle.std.proofs.Common.{◌≡◌, ℕ, ◌^◌, ◌≤◌, ℤ, inl, inr, refl, sym, subst, ap, ◌∙◌, arith}
-use Rattle.named_numbers.specs.Numbers.{highest_degree}
+use Rattle.named_numbers.specs.Numbers.{least_degree, highest_degree}
 use Rattle.fixed_interval.specs.declared.tables.PremiumTable.{PremiumTable}
 use Rattle.model_specs.specs.Product.{Product}
 use Rattle.model_specs.specs.Payments.{payment_plan, pattern_plan}
 use Rattle.model_specs.specs.Runs.{pattern_value}
 use Rattle.premium_solver.specs.Premiums.{IsPremiumTable, IsTooSmall, IsLargePattern, ArePremiumsClose}
 use Rattle.premium_solver.specs.Premiums.{tolerance_at_issue}
+use Rattle.thiele_backward.specs.Results.{AreConstantMonths}
 use Rattle.reserve_report.specs.declared.report.Kind.TheVariants as kind
 use Rattle.reserve_report.specs.declared.report.Report.{Report}
 use Rattle.reserve_report.specs.Reports.{IsReport}
@@ -17,6 +18,7 @@ use Rattle.thiele_cli.specs.declared.refusal.Refusal.{Refusal}
 use Rattle.thiele_cli.specs.declared.refusal.Refusal.TheVariants as refusal
 use Rattle.thiele_cli.specs.Premiums.{HasClosePremium, ends_of}
 use Rattle.thiele_cli.specs.Replies.{AnswersQuestion, HasLine}
+use Rattle.thiele_cli.proofs.Reported.{valuation_of, at_most}
 
 -- what the solver answers can be reported
 pub premium_of : (product : Product) (t : PremiumTable) → IsPremiumTable product t → IsPremiumOf product t
@@ -49,9 +51,17 @@ close_premium product t r h tells n from =
 
 pub premium_is_reported : (product : Product) (t : PremiumTable) (r : Report) → IsPremiumTable product t
     → IsReport product kind.Premium 1 r → TellsPremium t r
+    → (AreConstantMonths product (payment_plan product) → t.degree ≡ least_degree)
     → AnswersQuestion question.Premium product (answer.Report product r)
-premium_is_reported product t r h right tells =
-    inl (r, refl, record { is_report = right; close = close_premium product t r h tells })
+premium_is_reported product t r h right tells constant = inl (
+  r,
+  refl,
+  record {
+    valuation = valuation_of product kind.Premium r 1 1 t.degree refl right tells.degree
+        (λ all. at_most t.degree least_degree (constant all));
+    close = close_premium product t r h tells;
+  },
+)
 
 pub premium_is_refused : (product : Product) (why : Refusal) (low : ℤ) → why ≡ refusal.Premium low
     → IsTooSmall product low → ((n : ℕ) → highest_degree ≤ n → ¬ IsLargePattern product n)

@@ -1,29 +1,29 @@
--- A report that is right for dates is right for those that were asked for.
-use Rattle.std.proofs.Common.{◌≡◌, ℕ, refl, sym, subst}
+-- A report of a result is right for the dates that were asked for, and has its degree.
+use Rattle.std.proofs.Common.{◌≡◌, ℕ, ◌≤◌, sym, subst, arith}
 use Rattle.fixed_interval.specs.declared.tables.MomentTable.{MomentTable}
 use Rattle.model_specs.specs.Product.{Product}
+use Rattle.model_specs.specs.Payments.{payment_plan}
 use Rattle.moment_equations.specs.Results.{AreMoments}
-use Rattle.reserve_report.specs.declared.report.Kind.TheVariants as kind
+use Rattle.reserve_report.specs.declared.report.Kind.{Kind}
 use Rattle.reserve_report.specs.declared.report.Report.{Report}
 use Rattle.reserve_report.specs.Reports.{IsReport}
 use Rattle.reserve_report.specs.Results.{AreMomentsOf}
-use Rattle.thiele_cli.specs.declared.answer.Answer.TheVariants as answer
-use Rattle.thiele_cli.specs.declared.question.Question.TheVariants.{Occupancy, Moments}
-use Rattle.thiele_cli.specs.Replies.{AnswersQuestion}
+use Rattle.thiele_backward.specs.Results.{AreConstantMonths}
+use Rattle.thiele_cli.specs.Valuations.{IsValuation, constant_degree}
 
--- the report of a table of probabilities answers for the months that lie between its dates
-pub probabilities_are_reported : (product : Product) (report : Report) (dates every : ℕ) → dates ≡ every
-    → IsReport product kind.Occupancy dates report
-    → AnswersQuestion (Occupancy every) product (answer.Report product report)
-probabilities_are_reported product report dates every same right =
-    (report, refl, subst (λ months. IsReport product kind.Occupancy months report) same right)
+-- the report of a result of some degree, about dates that lie so many months apart
+pub valuation_of : (product : Product) (kind : Kind) (report : Report) (dates every degree : ℕ) → dates ≡ every
+    → IsReport product kind dates report → report.degree ≡ degree
+    → (AreConstantMonths product (payment_plan product) → degree ≤ constant_degree kind)
+    → IsValuation product kind every report
+valuation_of product kind report dates every degree same right is constant = record {
+  is_report = subst (λ months. IsReport product kind months report) same right;
+  degree = λ all. subst (λ d. d ≤ constant_degree kind) (sym is) (constant all);
+}
 
--- and so does that of tables of moments
-pub moments_are_reported : (product : Product) (report : Report) (dates every : ℕ) → dates ≡ every
-    → IsReport product kind.Moments dates report
-    → AnswersQuestion (Moments every) product (answer.Report product report)
-moments_are_reported product report dates every same right =
-    (report, refl, subst (λ months. IsReport product kind.Moments months report) same right)
+-- a degree that is one is at most it
+pub at_most : (degree most : ℕ) → degree ≡ most → degree ≤ most
+at_most degree most is = omega (arith, is)
 
 -- such tables can be reported
 pub moments_of : (product : Product) (every : ℕ) (t : MomentTable) → AreMoments product every t

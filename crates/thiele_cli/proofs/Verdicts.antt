@@ -6,7 +6,12 @@ use Rattle.toml.specs.Data.{Members}
 use Rattle.model_specs.specs.Product.{Product}
 use Rattle.model_specs.specs.ValuationRules.{RuleBreak, first_broken}
 use Rattle.product_file.specs.Reads.{reads}
+use Rattle.rule_breaks.specs.Breaks.{break_of}
 use Rattle.product_file.specs.Verdict.{ReadsAs, ReadsProduct, BreaksInTree, IsNotToml, IsValid, Breaks}
+use Rattle.thiele_cli.specs.declared.file_break.FileBreak.{FileBreak}
+use Rattle.thiele_cli.specs.declared.file_break.FileBreak.TheVariants as file
+use Rattle.thiele_cli.specs.declared.verdict.Verdict.TheVariants as verdict
+use Rattle.thiele_cli.specs.Verdicts.{IsVerdictOn}
 
 -- a reading is one thing
 ok-or-err : (r : Result Product RuleBreak) (p : Product) (b : RuleBreak) → r ≡ Ok p → r ≡ Err b → ⊥
@@ -66,3 +71,13 @@ toml-or-valid bytes p none x = no-toml bytes x.reads.tree none x.reads.reads_as
 pub breaks_later : (bytes : List ℕ) (product : Product) (found : RuleBreak) → ReadsProduct bytes product
     → first_broken product ≡ Some found → Breaks bytes found
 breaks_later bytes product found reads broken = inr (product, reads, broken)
+
+-- bytes with a valid product have no other, and are not refused
+pub one_valid : (bytes : List ℕ) (p q : Product) → IsValid bytes p → IsValid bytes q → p ≡ q
+one_valid bytes p q x y = one-product bytes p q x.reads y.reads
+
+pub not_refused : (bytes : List ℕ) (p : Product) (cause : FileBreak) → IsValid bytes p
+    → IsVerdictOn bytes (verdict.Refused cause) → ⊥
+not_refused bytes p (file.TooLong seen) valid says = says
+not_refused bytes p file.NotToml valid says = toml-or-valid bytes p says valid
+not_refused bytes p (file.Rule found) valid says = valid-or-broken bytes p (break_of found) valid says

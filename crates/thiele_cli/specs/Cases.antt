@@ -10,7 +10,7 @@ use Rattle.thiele_cli.specs.declared.file_break.FileBreak.{FileBreak}
 use Rattle.thiele_cli.specs.declared.file_break.FileBreak.TheVariants as file
 use Rattle.thiele_cli.specs.declared.question.Question.{Question}
 use Rattle.thiele_cli.specs.declared.pair_question.PairQuestion.{PairQuestion}
-use Rattle.thiele_cli.specs.Questions.{Asked, OfFile, OfFiles, OfSeed, asked_of}
+use Rattle.thiele_cli.specs.Questions.{Asked, OfFile, OfFiles, OfSeed, LoadOf, asked_of}
 
 -- what a shelf tells of its files: the names with their bytes, or nothing
 abbrev pub Files : Type 0
@@ -42,11 +42,12 @@ HasFault files name (file.Rule found) =
 abbrev pub HasProduct : Files → List ℕ → Product → Type 0
 HasProduct files name product = (bytes : List ℕ) × AreBytesOf files name bytes × IsValid bytes product
 
--- what words and files come to: no reading, a seed, a first or a second file that is refused, or a question about a
--- product or about two that break no rule
+-- what words and files come to: no reading, a seed whose file or whose reserves are asked for, a first or a second
+-- file that is refused, or a question about a product or about two that break no rule
 pub data Case : Type 0 where
   NoReading : Case
   Generated : ℕ → Case
+  Loaded : ℕ → Case
   FirstRefused : FileBreak → Case
   SecondRefused : FileBreak → Case
   Answered : Question → Product → Case
@@ -70,6 +71,7 @@ IsAskedCase files (OfFile what name) case =
 IsAskedCase files (OfFiles what first second) case =
     IsFileCase files first FirstRefused (IsSecondCase files what second) case
 IsAskedCase files (OfSeed seed) case = case ≡ Generated seed
+IsAskedCase files (LoadOf seed) case = case ≡ Loaded seed
 
 -- what the words come to: they have no reading, or they are read as this request
 abbrev pub IsCase : Files → List (List ℕ) → Case → Type 0

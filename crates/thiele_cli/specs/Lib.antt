@@ -3,11 +3,14 @@ pub mod Cases
 pub mod Comparisons
 pub mod Ends
 pub mod Fetches
+pub mod Inquiries
 pub mod JointFiles
+pub mod Loads
 pub mod MonthGrids
 pub mod Outcome
 pub mod Premiums
 pub mod Questions
 pub mod Refusals
 pub mod Replies
+pub mod Valuations
 pub mod Verdicts

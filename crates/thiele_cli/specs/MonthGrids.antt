@@ -8,8 +8,8 @@ use Rattle.month_grid.specs.MonthGridLaws.{month_grid_degree}
 use Rattle.report_columns.specs.declared.note.Note.{Note}
 use Rattle.reserve_report.specs.declared.report.Kind.TheVariants as kind
 use Rattle.reserve_report.specs.declared.report.Report.{Report}
-use Rattle.reserve_report.specs.Reports.{IsReport}
 use Rattle.thiele_cli.specs.Premiums.{ends_of}
+use Rattle.thiele_cli.specs.Valuations.{IsValuation}
 
 -- the row's ends hold the reserve by whole months of its date and state, of each degree in which these will do as cells
 abbrev pub HoldsByMonths : Product → Note → Type 0
@@ -18,5 +18,5 @@ HoldsByMonths product row = (n : ℕ) → month_grid_degree ≤ n
 
 -- a report of reserves, by 32 cells a month and by whole months
 pub record IsReserveReport (product : Product) (every : ℕ) (report : Report) : Type 0 where
-  pub is_report : IsReport product kind.Reserves every report
+  pub valuation : IsValuation product kind.Reserves every report
   pub by_months : All (HoldsByMonths product) report.rows.items

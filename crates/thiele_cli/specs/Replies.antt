@@ -10,7 +10,8 @@ use Rattle.file_upgrade.specs.Upgraded.{IsOfFormat2}
 use Rattle.report_columns.specs.Columns.{ColumnText}
 use Rattle.reserve_report.specs.declared.report.Report.{Report}
 use Rattle.reserve_report.specs.declared.report.Kind.TheVariants as kind
-use Rattle.reserve_report.specs.Reports.{HasText, IsReport}
+use Rattle.reserve_report.specs.LoadText.{load_text}
+use Rattle.reserve_report.specs.Reports.{HasText}
 use Rattle.premium_solver.specs.Premiums.{IsTooSmall, IsLargePattern}
 use Rattle.reserve_report.specs.ReportText.{report_text}
 use Rattle.reserve_report.specs.CheckText.{check_text}
@@ -33,12 +34,16 @@ use Rattle.thiele_cli.specs.Premiums.{HasClosePremium}
 use Rattle.thiele_cli.specs.MonthGrids.{IsReserveReport}
 use Rattle.thiele_cli.specs.Comparisons.{AnswersComparison}
 use Rattle.thiele_cli.specs.JointFiles.{AnswersJoin}
-use Rattle.thiele_cli.specs.Cases.{Case, NoReading, Generated, FirstRefused, SecondRefused, Answered, AnsweredOfTwo}
+use Rattle.thiele_cli.specs.Loads.{IsLoaded}
+use Rattle.thiele_cli.specs.Valuations.{IsValuation}
+use Rattle.thiele_cli.specs.Cases.{Case, NoReading, Generated, Loaded, FirstRefused, SecondRefused, Answered}
+use Rattle.thiele_cli.specs.Cases.{AnsweredOfTwo}
 
 -- the end of a run with this answer, once its text is written
 abbrev pub end_of : Answer → End
 end_of (answer.Limits product) = end.Done
 end_of (answer.Report product report) = end.Done
+end_of (answer.Load product report) = end.Done
 end_of (answer.File text) = end.Done
 end_of (answer.Refused why) = refused_end why
 end_of (answer.Changes old new changes) = end.Done
@@ -47,6 +52,7 @@ end_of (answer.Changes old new changes) = end.Done
 abbrev pub report_of : Answer → Option Report
 report_of (answer.Limits product) = None
 report_of (answer.Report product report) = Some report
+report_of (answer.Load product report) = Some report
 report_of (answer.File text) = None
 report_of (answer.Refused why) = None
 report_of (answer.Changes old new changes) = None
@@ -55,6 +61,7 @@ report_of (answer.Changes old new changes) = None
 abbrev pub extra_of : Answer → Extra
 extra_of (answer.Limits product) = extra.Nothing
 extra_of (answer.Report product report) = extra.Nothing
+extra_of (answer.Load product report) = extra.Nothing
 extra_of (answer.File text) = extra.Nothing
 extra_of (answer.Refused why) = extra.Nothing
 extra_of (answer.Changes old new changes) = extra.Compare changes
@@ -63,6 +70,7 @@ extra_of (answer.Changes old new changes) = extra.Compare changes
 abbrev pub text_of : Answer → List ColumnText → List ℕ
 text_of (answer.Limits product) columns = check_text product
 text_of (answer.Report product report) columns = report_text product report columns
+text_of (answer.Load product report) columns = load_text product report
 text_of (answer.File text) columns = text.items
 text_of (answer.Refused why) columns = line_of why
 text_of (answer.Changes old new changes) columns = changes_text old new changes
@@ -81,6 +89,7 @@ HasLine (refusal.Compare broken) = ⊤
 abbrev pub IsPrintable : Answer → Type 0
 IsPrintable (answer.Limits product) = ⊤
 IsPrintable (answer.Report product report) = HasText product report
+IsPrintable (answer.Load product report) = HasText product report
 IsPrintable (answer.File text) = ⊤
 IsPrintable (answer.Refused why) = HasLine why
 IsPrintable (answer.Changes old new changes) = HaveText old changes
@@ -92,7 +101,7 @@ Reports product IsRight given =
 
 -- a report of the premium, whose ends are as close as the tolerances of the benefits and of the pattern say
 pub record IsPremiumReport (product : Product) (report : Report) : Type 0 where
-  pub is_report : IsReport product kind.Premium 1 report
+  pub valuation : IsValuation product kind.Premium 1 report
   pub close : HasClosePremium product report
 
 -- the pattern's value is refused: its interval begins below 1/32, and no value of degree 24 or more is at least 1/32
@@ -113,11 +122,11 @@ pub record IsUpgraded (product : Product) (given : Answer) : Type 0 where
 -- the answer to a question about a product that breaks no rule
 abbrev pub AnswersQuestion : Question → Product → Answer → Type 0
 AnswersQuestion question.Limits product given = given ≡ answer.Limits product
-AnswersQuestion question.ValueAtIssue product given = Reports product (IsReport product kind.Value 1) given
+AnswersQuestion question.ValueAtIssue product given = Reports product (IsValuation product kind.Value 1) given
 AnswersQuestion (question.Reserves every) product given = Reports product (IsReserveReport product every) given
 AnswersQuestion (question.Occupancy every) product given =
-    Reports product (IsReport product kind.Occupancy every) given
-AnswersQuestion (question.Moments every) product given = Reports product (IsReport product kind.Moments every) given
+    Reports product (IsValuation product kind.Occupancy every) given
+AnswersQuestion (question.Moments every) product given = Reports product (IsValuation product kind.Moments every) given
 AnswersQuestion question.Premium product given =
     Reports product (IsPremiumReport product) given ⊎ IsRefusedPremium product given
 AnswersQuestion question.Upgraded product given = IsUpgraded product given
@@ -138,6 +147,7 @@ pub record IsGenerated (seed : ℕ) (given : Answer) : Type 0 where
 abbrev pub Answers : Case → Answer → Type 0
 Answers NoReading given = given ≡ answer.Refused refusal.Words
 Answers (Generated seed) given = IsGenerated seed given
+Answers (Loaded seed) given = IsLoaded seed given
 Answers (FirstRefused cause) given = given ≡ answer.Refused (refusal.First cause)
 Answers (SecondRefused cause) given = given ≡ answer.Refused (refusal.Second cause)
 Answers (Answered asked product) given = AnswersQuestion asked product given

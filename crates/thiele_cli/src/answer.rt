@@ -8,7 +8,7 @@ use crate::refusal::Refusal;
 use basis_compare::{Changes, changes_bytes};
 use rate_bounds::Admitted;
 use report_columns::Column;
-use reserve_report::{Report, check_bytes, report_bytes};
+use reserve_report::{Report, check_bytes, load_bytes, report_bytes};
 use std::alloc::{AllocError, Global};
 
 /// What a run answers.
@@ -18,6 +18,8 @@ pub enum Answer {
     Limits(Admitted),
     /// A report about a product.
     Report(Admitted, Report),
+    /// A report of reserves, summed up.
+    Load(Admitted, Report),
     /// A product file.
     File(Vec<u8>),
     /// No answer, but a line that says why.
@@ -34,6 +36,7 @@ impl Answer {
         match self {
             Answer::Limits(_) => End::Done,
             Answer::Report(..) => End::Done,
+            Answer::Load(..) => End::Done,
             Answer::File(_) => End::Done,
             Answer::Refused(why) => why.end(),
             Answer::Changes(..) => End::Done,
@@ -54,6 +57,7 @@ impl Answer {
             Answer::Report(admitted, report) => {
                 report_bytes(alloc, admitted.product(), report, columns)
             }
+            Answer::Load(admitted, report) => load_bytes(alloc, admitted.product(), report),
             Answer::File(text) => text.clone(),
             Answer::Refused(why) => why.line(alloc),
             Answer::Changes(old, new, changes) => {
@@ -70,6 +74,7 @@ impl Answer {
         match self {
             Answer::Limits(_) => (None, Extra::Nothing),
             Answer::Report(_, report) => (Some(report), Extra::Nothing),
+            Answer::Load(_, report) => (Some(report), Extra::Nothing),
             Answer::File(_) => (None, Extra::Nothing),
             Answer::Refused(_) => (None, Extra::Nothing),
             Answer::Changes(_, _, changes) => (None, Extra::Compare(changes)),

@@ -1,6 +1,7 @@
 // What a command is answered by, before the sink is reached.
 ghost use Rattle.std.specs.Prelude.{◌≡◌, ℕ, ◌++◌, List, [], ◌∷◌, IfOk, OnOk, IsErrOf};
 ghost use Rattle.command_words.specs.Commands.{request_of};
+ghost use Rattle.thiele_cli.specs.Inquiries.{asked_by, HasGoodDates};
 ghost use Rattle.thiele_cli.specs.Questions.{OfFile, OfFiles, asked_of, HasDates, HasDatesOfTwo, IsAskedOf, IsRead};
 ghost use Rattle.thiele_cli.specs.Replies.{IsGenerated, IsPrintable};
 ghost use Rattle.thiele_cli.specs.AskedAnswers.{AnswersAsked};
@@ -8,6 +9,8 @@ ghost use Rattle.thiele_cli.specs.AskedAnswers.{AnswersAsked};
 use crate::answer::Answer;
 use crate::fault::Fault;
 use crate::fetching::file_verdict;
+use crate::inquiry::{Inquiry, inquiry_of};
+use crate::loading::loaded_answer;
 use crate::pair_question::{PairQuestion, pair_answer};
 use crate::question::{Question, product_answer};
 use crate::refusal::Refusal;
@@ -75,7 +78,32 @@ fn seed_answer(alloc: Global, seed: u64) -> Result<Answer, AllocError>
     Ok(Answer::File(make(alloc, seed)?))
 }
 
-/// The answer to a command. A seed needs no file.
+/// The answer to what is asked. A seed needs no file.
+fn inquiry_answer<H: Shelf>(
+    alloc: Global,
+    inquiry: Inquiry<'_>,
+    shelf: &mut H,
+) -> Result<Answer, Fault>
+    requires { HasGoodDates (asked_by inquiry) }
+    ensures answer { IfOk result (AnswersAsked (H.files shelf.old) (asked_by inquiry.entry)) }
+    ensures printable { IfOk result IsPrintable }
+    ensures fetched { OnOk result (H.failed shelf.new ≡ H.failed shelf.old) }
+    ensures not_fetched { IsErrOf result Fault.Fetch → (file : List ℕ) × IsAskedOf (asked_by inquiry.entry) file
+        × (H.failed shelf.new ≡ H.failed shelf.old ++ file ∷ []) }
+    ensures memory { IsErrOf result Fault.Memory → H.failed shelf.new ≡ H.failed shelf.old }
+    ensures files { H.files shelf.new ≡ H.files shelf.old }
+{
+    match inquiry {
+        Inquiry::OfFile(question, name) => named_answer(alloc, question, name, shelf),
+        Inquiry::OfFiles(question, first, second) => {
+            two_named_answer(alloc, question, first, second, shelf)
+        }
+        Inquiry::OfSeed(seed) => Ok(seed_answer(alloc, seed)?),
+        Inquiry::LoadOf(seed) => Ok(loaded_answer(alloc, seed)?),
+    }
+}
+
+/// The answer to a command.
 pub fn command_answer<H: Shelf>(
     alloc: Global,
     command: Command<'_>,
@@ -91,26 +119,5 @@ pub fn command_answer<H: Shelf>(
     ensures memory { IsErrOf result Fault.Memory → H.failed shelf.new ≡ H.failed shelf.old }
     ensures files { H.files shelf.new ≡ H.files shelf.old }
 {
-    match command {
-        Command::Check(name) => named_answer(alloc, Question::Limits, name, shelf),
-        Command::Value(name) => named_answer(alloc, Question::ValueAtIssue, name, shelf),
-        Command::Reserves(name, every) => {
-            named_answer(alloc, Question::Reserves(every), name, shelf)
-        }
-        Command::Occupancy(name, every) => {
-            named_answer(alloc, Question::Occupancy(every), name, shelf)
-        }
-        Command::Moments(name, every) => {
-            named_answer(alloc, Question::Moments(every), name, shelf)
-        }
-        Command::Premium(name) => named_answer(alloc, Question::Premium, name, shelf),
-        Command::Generate(seed) => Ok(seed_answer(alloc, seed)?),
-        Command::Upgrade(name) => named_answer(alloc, Question::Upgraded, name, shelf),
-        Command::Join(first, second) => {
-            two_named_answer(alloc, PairQuestion::Joined, first, second, shelf)
-        }
-        Command::Compare(first, second, every) => {
-            two_named_answer(alloc, PairQuestion::Changes(every), first, second, shelf)
-        }
-    }
+    inquiry_answer(alloc, inquiry_of(command), shelf)
 }

@@ -1,9 +1,9 @@
 // The whole program but its real shelf and sink.
 ghost use Rattle.std.specs.Prelude.{◌≡◌, ◌≢◌, ◌⊎◌, ℕ, IsSome};
 ghost use Rattle.io_ports.specs.Counts.{Rose};
-ghost use Rattle.command_words.specs.Readings.{words_of, Generate, AreReadAs, HaveReading};
+ghost use Rattle.command_words.specs.Readings.{words_of, HaveReading};
 ghost use Rattle.report_columns.specs.Columns.{columns_of};
-ghost use Rattle.thiele_cli.specs.Questions.{AskAbout};
+ghost use Rattle.thiele_cli.specs.Questions.{AreOfSeed, AskAbout};
 ghost use Rattle.thiele_cli.specs.Replies.{end_of, report_of, extra_of};
 ghost use Rattle.thiele_cli.specs.Ends.{ComesBy, IsExtra, IsFault, LeadTo};
 ghost use Rattle.thiele_cli.specs.Ends.{LeadToExtra, LeadToReport, NotesFailure, status_of};
@@ -62,7 +62,7 @@ pub fn run<H: Shelf, K: Sink>(
     // Words without a reading and seeds need no file, told or not; the first take no memory either.
     ensures no_reading { ¬ HaveReading (words_of words.now) →
         (result.end ≡ End.BadWords) ⊎ (result.end ≡ End.WriteFault) }
-    ensures generated { (seed : ℕ) → AreReadAs (words_of words.now) (Generate seed) →
+    ensures seeds { (seed : ℕ) → AreOfSeed (words_of words.now) seed →
         (result.end ≡ End.Done) ⊎ (result.end ≡ End.Memory) ⊎ (result.end ≡ End.WriteFault) }
 
     // A fetch fault comes exactly where the list of failed names grew, and it grew by a file that the words name.

@@ -1,6 +1,8 @@
 // Valuations of a product, as answers.
 ghost use Rattle.std.specs.Prelude.{◌≡◌, ◌<◌, ℤ, IfOk};
 ghost use Rattle.thiele_cli.specs.declared.question.Question.TheVariants as question;
+ghost use Rattle.reserve_report.specs.Reports.{HasText};
+ghost use Rattle.thiele_cli.specs.MonthGrids.{IsReserveReport};
 ghost use Rattle.thiele_cli.specs.Replies.{AnswersQuestion, IsPrintable};
 
 use crate::answer::Answer;
@@ -11,7 +13,7 @@ use moment_equations::moments;
 use payment_plan::Which;
 use premium_solver::{PremiumError, solve};
 use rate_bounds::Admitted;
-use reserve_report::{Kind, from_moments, from_premium, from_table, from_value};
+use reserve_report::{Kind, Report, from_moments, from_premium, from_table, from_value};
 use std::alloc::{AllocError, Global};
 use std::sync::ledger::Ledger;
 use taylor_step::Steps;
@@ -33,7 +35,25 @@ pub fn value_answer<L: Ledger>(
     Ok(Answer::Report(admitted, report))
 }
 
-/// The reserves of all states at the dates 0, `every`, 2 `every` and so on, up to the term.
+/// The report of the reserves of all states at the dates 0, `every`, 2 `every` and so on, up to the term.
+pub fn reserves_report<L: Ledger>(
+    alloc: Global,
+    admitted: &Admitted,
+    every: u32,
+    steps: &mut Steps<L>,
+) -> Result<Report, AllocError>
+    requires every { 0 < every }
+    requires count { steps.old ≡ 0 }
+    ensures report { IfOk result (IsReserveReport admitted.now every) }
+    ensures text { IfOk result (HasText admitted.now) }
+{
+    let _months = admitted.product().months();
+    let table = month_reserves(alloc, admitted, every, steps)?;
+    let report = from_table(alloc, admitted, Kind::Reserves, &table)?;
+    Ok(report)
+}
+
+/// The reserves at these dates.
 pub fn reserves_answer<L: Ledger>(
     alloc: Global,
     admitted: Admitted,
@@ -45,9 +65,7 @@ pub fn reserves_answer<L: Ledger>(
     ensures answer { IfOk result (AnswersQuestion (question.Reserves every) admitted) }
     ensures printable { IfOk result IsPrintable }
 {
-    let _months = admitted.product().months();
-    let table = month_reserves(alloc, &admitted, every, steps)?;
-    let report = from_table(alloc, &admitted, Kind::Reserves, &table)?;
+    let report = reserves_report(alloc, &admitted, every, steps)?;
     Ok(Answer::Report(admitted, report))
 }
 

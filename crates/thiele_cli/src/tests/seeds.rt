@@ -54,3 +54,21 @@ fn a_second_piece_that_fails_leaves_the_first(rt: HostRuntime) -> Result<(), Fai
     assert!(rt; text.starts_with(sink.bytes()));
     Ok(())
 }
+
+#[test]
+fn a_seed_is_loaded_in_three_lines(rt: HostRuntime) -> Result<(), Fail> {
+    let alloc = rt.alloc();
+    let mut sink = sink(alloc, &[])?;
+    let finish = run(
+        alloc,
+        &words(alloc, &["load", "7"])?,
+        &mut shelf(alloc, &[1])?,
+        &mut sink,
+        Vec::new(alloc),
+    );
+    assert_eq!(rt; finish.status, 0);
+    let report = finish.report.ok_or("no report")?;
+    assert_eq!(rt; report.rows.len(), 198);
+    assert!(rt; sink.bytes().starts_with(b"load generated-7\ndegree "));
+    Ok(())
+}

@@ -1,7 +1,7 @@
 use Rattle.std.proofs.Common.{◌≡◌, ◌<◌, ◌+◌, ◌∙◌, refl, arith, add-one}
 use Rattle.cell_coeffs.proofs.PairRowSteps.{moments_kept}
 use Rattle.moment_equations.specs.NearMoments.{months_behind}
-use Rattle.moment_equations.proofs.CellSteps.{can_step, stays_on, stands_here}
+use Rattle.moment_equations.proofs.CellSteps.{can_step, stays_on, stands_here, constant_here}
 use Rattle.linear_system.proofs.Made.{same_places_then}
 use Rattle.moment_equations.proofs.month.cells_over.Goals as goal
 
@@ -10,6 +10,7 @@ loop-done-init g c = record {
   near = λ n from near. near;
   least = omega arith;
   highest = omega arith;
+  constant = λ constant. omega arith;
   long = c.requires.mid;
   work = refl;
   count = omega arith;
@@ -48,6 +49,12 @@ loop-done-preserved g c =
           c.step-answered.ensures.first_half c.step-answered.ensures.second_half before.near;
       least = omega (arith, before.least, c.max-degree.ensures);
       highest = omega (arith, before.highest, c.step-answered.ensures.most, c.max-degree.ensures);
+      constant = λ constant.
+          let nine = constant_here product months c.loop-done.done admissible inside few c.fill_moments.new.out
+          c.loop-done.mid stands before.long (before.near 24 before.highest c.requires.near) c.step-answered.result
+          c.step-answered.ensures.constant_pair
+          (c.fill_moments.ensures.constant (rw c.product.ensures.product constant)) in
+          omega (arith, before.constant constant, nine, c.max-degree.ensures);
       long = c.step-answered.auto.mid ∙ before.long;
       work = c.step-answered.ensures.work ∙ before.work;
       count = omega (arith, before.count, c.step-answered.ensures.count);

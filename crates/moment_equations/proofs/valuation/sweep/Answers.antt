@@ -48,6 +48,7 @@ loop-done-init g c =
       };
       least = omega arith;
       highest = omega arith;
+      constant = λ all. omega arith;
       long = ap length c.requires.mid ∙ length-replicate _ _;
       work = c.requires.work;
       count = omega arith;
@@ -175,6 +176,9 @@ loop-done-preserved g c =
       };
       least = omega (arith, before.least, c.max-degree.ensures);
       highest = omega (arith, before.highest, c.month_over-answered.ensures.highest, c.max-degree.ensures);
+      constant = λ all.
+          let nine = c.month_over-answered.ensures.constant (all date (omega (arith, c.loop-done-test.true, months))) in
+          omega (arith, before.constant all, nine, c.max-degree.ensures);
       long = c.month_over-answered.auto.mid ∙ before.long;
       work = c.month_over-answered.ensures.work ∙ before.work;
       count = omega (arith, c.month_over-answered.ensures.count, before.count);

@@ -1,7 +1,6 @@
 use Rattle.std.proofs.Common.{inl, inr, ap, subst, ◌∙◌, Err}
 use Rattle.std.proofs.KnownBytes.{Keeps-refl}
 use Rattle.command_words.specs.Commands.{request_of}
-use Rattle.command_words.specs.Readings.{Generate}
 use Rattle.io_ports.specs.Counts.{Rose}
 use Rattle.thiele_cli.specs.declared.answer.Answer.TheVariants as answer
 use Rattle.thiele_cli.specs.declared.refusal.Refusal.TheVariants as refusal
@@ -9,7 +8,7 @@ use Rattle.thiele_cli.specs.Outcome.{Delivers}
 use Rattle.thiele_cli.specs.Replies.{end_of}
 use Rattle.thiele_cli.proofs.Answered.{request_answers, no_reading_answers}
 use Rattle.thiele_cli.proofs.Causes.{comes_by, reported, has_extra, completes}
-use Rattle.thiele_cli.proofs.Seeds.{seed_ends, no_file_of_seed}
+use Rattle.thiele_cli.proofs.Seeds.{seed_ends, seed_read, no_file_of_seed}
 use Rattle.thiele_cli.proofs.run.run.Goals as goal
 
 pub returns-in_default-clause-written : goal.returns-in_default-clause-written
@@ -97,16 +96,16 @@ returns-clause-written g c = inl (
   Keeps-refl (g.K.Sink.written c.args.sink.now),
 )
 
-pub returns-in_default-clause-generated : goal.returns-in_default-clause-generated
-returns-in_default-clause-generated g c seed read = absurd (c.in_default.ensures.none (Generate seed, read))
+pub returns-in_default-clause-seeds : goal.returns-in_default-clause-seeds
+returns-in_default-clause-seeds g c seed read = absurd (c.in_default.ensures.none (seed_read _ seed read))
 
-pub returns-in-Err-Fetch-clause-generated : goal.returns-in-Err-Fetch-clause-generated
-returns-in-Err-Fetch-clause-generated g c seed read =
+pub returns-in-Err-Fetch-clause-seeds : goal.returns-in-Err-Fetch-clause-seeds
+returns-in-Err-Fetch-clause-seeds g c seed read =
     let file = c.in-Err-Fetch.ensures.not_fetched (ap (λ e. Err e) c.in-Err-Fetch.field-0-is) in
     absurd (no_file_of_seed _ (request_of c.in-Some.command) seed file.0 c.in-Some.ensures.some file.1 read)
 
-pub returns-in-Ok-text-clause-generated : goal.returns-in-Ok-text-clause-generated
-returns-in-Ok-text-clause-generated g c seed read =
+pub returns-in-Ok-text-clause-seeds : goal.returns-in-Ok-text-clause-seeds
+returns-in-Ok-text-clause-seeds g c seed read =
     seed_ends _ _ seed c.in-Ok.answer c.deliver-in-Ok-text.result.end read
     (request_answers _ _ (request_of c.in-Some.command) c.in-Ok.answer c.in-Some.ensures.some c.in-Ok.ensures.answer)
     c.deliver-in-Ok-text.ensures.ends

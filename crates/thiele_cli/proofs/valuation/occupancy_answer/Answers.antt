@@ -1,7 +1,13 @@
-use Rattle.thiele_cli.proofs.Reported.{probabilities_are_reported}
+use Rattle.std.proofs.Common.{refl}
+use Rattle.reserve_report.specs.declared.report.Kind.TheVariants.{Occupancy}
+use Rattle.thiele_cli.proofs.Reported.{valuation_of, at_most}
 use Rattle.thiele_cli.proofs.valuation.occupancy_answer.Goals as goal
 
 pub returns-clause-answer : goal.returns-clause-answer
-returns-clause-answer g c =
-    probabilities_are_reported c.args.admitted c.in_ok-report.report c.in_ok-table.table.every c.args.every
-    c.in_ok-table.ensures.occupancy.every_is c.in_ok-report.ensures.report
+returns-clause-answer g c = (
+  c.in_ok-report.report,
+  refl,
+  valuation_of c.args.admitted Occupancy c.in_ok-report.report c.in_ok-table.table.every c.args.every
+      c.in_ok-table.table.degree c.in_ok-table.ensures.occupancy.every_is c.in_ok-report.ensures.report
+      c.in_ok-report.ensures.degree (λ all. at_most _ _ (c.in_ok-table.ensures.constant all)),
+)

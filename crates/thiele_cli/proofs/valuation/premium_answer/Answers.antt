@@ -9,7 +9,7 @@ from_premium-requires g c = premium_of c.args.admitted c.in-Ok.table c.in-Ok.ens
 pub returns-in_ok-report-in-Ok-clause-answer : goal.returns-in_ok-report-in-Ok-clause-answer
 returns-in_ok-report-in-Ok-clause-answer g c =
     premium_is_reported c.args.admitted c.in-Ok.table c.in_ok-report-in-Ok.report c.in-Ok.ensures.table
-    c.in_ok-report-in-Ok.ensures.report c.in_ok-report-in-Ok.ensures.premium
+    c.in_ok-report-in-Ok.ensures.report c.in_ok-report-in-Ok.ensures.premium c.in-Ok.ensures.constant
 
 pub returns-in_ok-refusal_of-in-Err-clause-answer : goal.returns-in_ok-refusal_of-in-Err-clause-answer
 returns-in_ok-refusal_of-in-Err-clause-answer g c =

@@ -1,0 +1,45 @@
+// What a command asks, and of which files or seed.
+ghost use Rattle.std.specs.Prelude.{◌≡◌};
+ghost use Rattle.command_words.specs.Commands.{request_of};
+ghost use Rattle.thiele_cli.specs.Inquiries.{asked_by, HasGoodDates};
+ghost use Rattle.thiele_cli.specs.Questions.{asked_of, IsRead};
+
+use crate::pair_question::PairQuestion;
+use crate::question::Question;
+use command_words::Command;
+
+/// What is asked, by the names of the files.
+#[derive(Clone, Copy)]
+pub enum Inquiry<'a> {
+    /// Something of the product of a file.
+    OfFile(Question, &'a str),
+    /// Something of the products of two files.
+    OfFiles(PairQuestion, &'a str, &'a str),
+    /// The product file of a seed.
+    OfSeed(u64),
+    /// The reserves of its product.
+    LoadOf(u64),
+}
+
+/// What a command asks.
+pub fn inquiry_of(command: Command<'_>) -> Inquiry<'_>
+    requires { IsRead (request_of command) }
+    ensures asked { asked_by result ≡ asked_of (request_of command.entry) }
+    ensures dates { HasGoodDates (asked_by result) }
+{
+    match command {
+        Command::Check(name) => Inquiry::OfFile(Question::Limits, name),
+        Command::Value(name) => Inquiry::OfFile(Question::ValueAtIssue, name),
+        Command::Reserves(name, every) => Inquiry::OfFile(Question::Reserves(every), name),
+        Command::Occupancy(name, every) => Inquiry::OfFile(Question::Occupancy(every), name),
+        Command::Moments(name, every) => Inquiry::OfFile(Question::Moments(every), name),
+        Command::Premium(name) => Inquiry::OfFile(Question::Premium, name),
+        Command::Generate(seed) => Inquiry::OfSeed(seed),
+        Command::Load(seed) => Inquiry::LoadOf(seed),
+        Command::Upgrade(name) => Inquiry::OfFile(Question::Upgraded, name),
+        Command::Join(first, second) => Inquiry::OfFiles(PairQuestion::Joined, first, second),
+        Command::Compare(first, second, every) => {
+            Inquiry::OfFiles(PairQuestion::Changes(every), first, second)
+        }
+    }
+}
