@@ -1,5 +1,4 @@
 pub mod ClaimLists
-pub mod Digits
 pub mod FoundClaims
 pub mod Nearness
 pub mod Numbers

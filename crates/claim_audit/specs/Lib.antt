@@ -1,6 +1,5 @@
 pub mod Audits
 pub mod Claims
-pub mod Decimals
 pub mod Findings
 pub mod Marks
 pub mod Readings

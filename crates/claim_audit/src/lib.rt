@@ -3,7 +3,6 @@
 
 mod auditing;
 mod claims;
-mod decimals;
 mod finding;
 mod findings;
 mod reading;
@@ -11,7 +10,6 @@ mod rows;
 
 pub use auditing::{Audited, audit};
 pub use claims::{Claimed, Fault, claim_of, is_header, month};
-pub use decimals::{millionths, whole};
 pub use finding::{Finding, mark};
 pub use findings::{Claim, findings_of};
 pub use reading::{AuditError, read_claims};

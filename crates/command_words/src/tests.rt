@@ -21,6 +21,11 @@ fn words_and_their_readings(rt: HostRuntime) {
         ("upgrade a", Some(Command::Upgrade("a"))),
         ("join a b", Some(Command::Join("a", "b"))),
         ("compare a b 12", Some(Command::Compare("a", "b", 12))),
+        (
+            "audit a b.csv 0.00001",
+            Some(Command::Audit("a", "b.csv", 10)),
+        ),
+        ("audit a b 0", Some(Command::Audit("a", "b", 0))),
         ("generate 0", Some(Command::Generate(0))),
         (
             "generate 18446744073709551615",
@@ -41,6 +46,11 @@ fn words_and_their_readings(rt: HostRuntime) {
         ("compare a  1", None),
         ("compare a b 1201", None),
         ("compare a b", None),
+        ("audit a b -0.1", None),
+        ("audit a b 01", None),
+        ("audit a b 1000000000000000000", None),
+        ("audit a  0.1", None),
+        ("audit a b", None),
         ("reserves a b 12", None),
         ("value ", None),
         ("value", None),
