@@ -1,3 +1,4 @@
+pub mod AuditText
 pub mod Audits
 pub mod Claims
 pub mod Findings

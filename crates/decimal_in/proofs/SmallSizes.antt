@@ -6,8 +6,10 @@ use Rattle.std.specs.Char.{is_ascii_digit}
 use Rattle.std.specs.List.{list_all, fold}
 use Rattle.std.proofs.Math.Nat.{mul-le-mul_right}
 use Rattle.std.proofs.lemmas.Grind.{pow_more}
-use Rattle.decimal_in.specs.Decimals.{value_of, whole_of, fraction_of, in_millionths}
-use Rattle.decimal_in.specs.Decimals.{point_of, SizesAreSmall}
+use Rattle.std.specs.Prelude.{ℤ, pos, ◌≤ℤ◌, unsigned_abs, option_map}
+use Rattle.std.proofs.lemmas.Int.{ints}
+use Rattle.decimal_in.specs.Decimals.{value_of, whole_of, fraction_of, in_millionths, size_of}
+use Rattle.decimal_in.specs.Decimals.{point_of, SizesAreSmall, unsigned_millionths_of}
 use Rattle.decimal_in.proofs.Digits.{digits_grow, six_digits}
 
 -- one digit more, and others behind it
@@ -78,3 +80,18 @@ by_point false text size is =
 
 pub sizes_are_small : SizesAreSmall
 sizes_are_small text size is = by_point (nat_lt (point_of text) (length text)) text size is
+
+-- the same of the number that they stand for, which is not negative
+of_size : (size : Option ℕ) (number : ℤ) → ((n : ℕ) → size ≡ Some n → n < 10 ^ 24)
+    → option_map pos size ≡ Some number → (pos 0 ≤ℤ number) × (unsigned_abs number < 10 ^ 24)
+of_size None number few is = absurd (let apart = is in cc)
+of_size (Some n) number few is =
+    let same : pos n ≡ number = cc is in
+    subst (λ z. (pos 0 ≤ℤ z) × (unsigned_abs z < 10 ^ 24)) same (grind (arith, ints), few n refl)
+
+pub unsigned_is_least : (text : List ℕ) (number : ℤ) → unsigned_millionths_of text ≡ Some number → pos 0 ≤ℤ number
+unsigned_is_least text number is = (of_size (size_of text) number (sizes_are_small text) is).0
+
+pub unsigned_is_small : (text : List ℕ) (number : ℤ) → unsigned_millionths_of text ≡ Some number
+    → unsigned_abs number < 10 ^ 24
+unsigned_is_small text number is = (of_size (size_of text) number (sizes_are_small text) is).1

@@ -29,6 +29,7 @@ status_of (end.Row broken) = 14
 abbrev pub IsExtra : Extra → Type 0
 IsExtra extra.Nothing = ⊥
 IsExtra (extra.Compare changes) = ⊤
+IsExtra (extra.Audit audited) = ⊤
 
 -- the ends of a run that has no answer or could not write it
 abbrev pub IsFault : End → Type 0

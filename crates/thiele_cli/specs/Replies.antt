@@ -4,6 +4,7 @@ use Rattle.std.specs.Prelude.{⊤, Vec}
 use Rattle.std.specs.declared.alloc.Global.{Global}
 use Rattle.named_numbers.specs.Numbers.{highest_degree}
 use Rattle.basis_compare.specs.ChangesText.{HaveText, changes_text}
+use Rattle.claim_audit.specs.AuditText.{AreAboutStates, audit_text}
 use Rattle.model_specs.specs.Product.{Product}
 use Rattle.product_file.specs.Verdict.{ReadsAs, IsValid}
 use Rattle.file_upgrade.specs.Upgraded.{IsOfFormat2}
@@ -31,9 +32,11 @@ use Rattle.thiele_cli.specs.declared.answer.Answer.TheVariants as answer
 use Rattle.thiele_cli.specs.Refusals.{refused_end, line_of}
 use Rattle.thiele_cli.specs.Premiums.{HasClosePremium}
 use Rattle.thiele_cli.specs.MonthGrids.{IsReserveReport}
+use Rattle.thiele_cli.specs.Audits.{AnswersAudit}
 use Rattle.thiele_cli.specs.Comparisons.{AnswersComparison}
 use Rattle.thiele_cli.specs.JointFiles.{AnswersJoin}
 use Rattle.thiele_cli.specs.Cases.{Case, NoReading, Generated, FirstRefused, SecondRefused, Answered, AnsweredOfTwo}
+use Rattle.thiele_cli.specs.Cases.{AnsweredOfClaims}
 
 -- the end of a run with this answer, once its text is written
 abbrev pub end_of : Answer → End
@@ -42,6 +45,7 @@ end_of (answer.Report product report) = end.Done
 end_of (answer.File text) = end.Done
 end_of (answer.Refused why) = refused_end why
 end_of (answer.Changes old new changes) = end.Done
+end_of (answer.Audit product eps audited) = end.Done
 
 -- the report of an answer that is one
 abbrev pub report_of : Answer → Option Report
@@ -50,6 +54,7 @@ report_of (answer.Report product report) = Some report
 report_of (answer.File text) = None
 report_of (answer.Refused why) = None
 report_of (answer.Changes old new changes) = None
+report_of (answer.Audit product eps audited) = None
 
 -- what it has beside a report
 abbrev pub extra_of : Answer → Extra
@@ -58,6 +63,7 @@ extra_of (answer.Report product report) = extra.Nothing
 extra_of (answer.File text) = extra.Nothing
 extra_of (answer.Refused why) = extra.Nothing
 extra_of (answer.Changes old new changes) = extra.Compare changes
+extra_of (answer.Audit product eps audited) = extra.Audit audited
 
 -- the text of an answer, with these columns behind a report
 abbrev pub text_of : Answer → List ColumnText → List ℕ
@@ -66,6 +72,7 @@ text_of (answer.Report product report) columns = report_text product report colu
 text_of (answer.File text) columns = text.items
 text_of (answer.Refused why) columns = line_of why
 text_of (answer.Changes old new changes) columns = changes_text old new changes
+text_of (answer.Audit product eps audited) columns = audit_text product eps audited
 
 -- a refusal has a line: the number that it tells is not too large for it
 abbrev pub HasLine : Refusal → Type 0
@@ -85,6 +92,7 @@ IsPrintable (answer.Report product report) = HasText product report
 IsPrintable (answer.File text) = ⊤
 IsPrintable (answer.Refused why) = HasLine why
 IsPrintable (answer.Changes old new changes) = HaveText old changes
+IsPrintable (answer.Audit product eps audited) = AreAboutStates product audited
 
 -- the answer is a report about the product, and it is right in this sense
 abbrev pub Reports : Product → (Report → Type 0) → Answer → Type 0
@@ -143,3 +151,4 @@ Answers (FirstRefused cause) given = given ≡ answer.Refused (refusal.First cau
 Answers (SecondRefused cause) given = given ≡ answer.Refused (refusal.Second cause)
 Answers (Answered asked product) given = AnswersQuestion asked product given
 Answers (AnsweredOfTwo asked old new) given = AnswersOfTwo asked old new given
+Answers (AnsweredOfClaims eps product text) given = AnswersAudit eps product text given

@@ -6,6 +6,7 @@ ghost use Rattle.thiele_cli.specs.Replies.{IsGenerated, IsPrintable};
 ghost use Rattle.thiele_cli.specs.AskedAnswers.{AnswersAsked};
 
 use crate::answer::Answer;
+use crate::auditing::claims_answer;
 use crate::fault::Fault;
 use crate::fetching::file_verdict;
 use crate::pair_question::{PairQuestion, pair_answer};
@@ -112,5 +113,6 @@ pub fn command_answer<H: Shelf>(
         Command::Compare(first, second, every) => {
             two_named_answer(alloc, PairQuestion::Changes(every), first, second, shelf)
         }
+        Command::Audit(name, claims, eps) => claims_answer(alloc, eps, name, claims, shelf),
     }
 }

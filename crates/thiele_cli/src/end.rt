@@ -4,6 +4,7 @@ ghost use Rattle.thiele_cli.specs.Ends.{status_of};
 
 use crate::file_break::FileBreak;
 use basis_compare::{Changes, CompareBreak};
+use claim_audit::Audited;
 use joint_life::JoinBreak;
 use reserve_report::Report;
 use rule_breaks::{RowBreak, RuleBreak};
@@ -72,6 +73,8 @@ pub enum Extra {
     Nothing,
     /// The changes between two bases, by `compare`.
     Compare(Changes),
+    /// What is found of each claim, by `audit`.
+    Audit(Audited),
 }
 
 /// What a run answers: its end with its exit status, and the report where one was to be written, or what else was.
