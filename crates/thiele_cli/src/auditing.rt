@@ -80,6 +80,8 @@ pub fn claims_answer<H: Shelf>(
     };
     match fetch_file(alloc, claims, shelf)? {
         Fetched::Bytes(text) => Ok(audit_answer(alloc, eps, product, &text)?),
-        Fetched::TooLong { seen } => Ok(Answer::Refused(Refusal::Second(FileBreak::TooLong { seen }))),
+        Fetched::TooLong { seen } => Ok(Answer::Refused(Refusal::Second(FileBreak::TooLong {
+            seen,
+        }))),
     }
 }
