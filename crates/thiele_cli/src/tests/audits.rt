@@ -46,7 +46,10 @@ fn claims_about_an_annuity_are_marked(rt: HostRuntime) -> Result<(), Fail> {
     assert_eq!(rt; audited.claims[2].mark, Finding::Yes);
     assert_eq!(rt; audited.claims[2].month, 120);
     assert!(rt; sink.bytes().starts_with(b"audit life\ndegree "));
-    assert!(rt; sink.bytes().ends_with(b" yes\nend yes 2 no 1 undecided 0\n"));
+    assert!(rt;
+        sink.bytes()
+            .ends_with(b" yes\nend yes 2 no 1 undecided 0\n")
+    );
     Ok(())
 }
 

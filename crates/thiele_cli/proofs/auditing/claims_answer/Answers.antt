@@ -1,6 +1,6 @@
-use Rattle.std.proofs.Common.{◌≡◌, refl, subst, sym, inr, ◌∙◌, ◌++◌, [], ◌∷◌, FitsSigned, rules}
+use Rattle.std.proofs.Common.{◌≡◌, refl, ap, subst, sym, inr, ◌∙◌, ◌++◌, [], ◌∷◌, FitsSigned, rules}
 use Rattle.std.specs.Int.{w128}
-use Rattle.std.specs.Prelude.{Err, IsErrOf}
+use Rattle.std.specs.Prelude.{Err}
 use Rattle.std.proofs.lemmas.Int.{to_z-of_z}
 use Rattle.std.proofs.lemmas.Result.{err_from_is_err_and}
 use Rattle.thiele_cli.specs.declared.fault.Fault.TheVariants.{Fetch}
@@ -41,9 +41,9 @@ returns-in-TooLong-clause-answer g c =
 pub returns-in_err-text-clause-not_fetched : goal.returns-in_err-text-clause-not_fetched
 returns-in_err-text-clause-not_fetched g c fetch =
     let p = err_from_is_err_and c.from_residual-in_err-text.result c.from_residual-in_err-text.ensures.1 in
-    let same = subst (λ fault. IsErrOf (Err fault) Fetch) p.2 (sym p.1 ∙ fetch) in (
+    let one : p.0 ≡ Fetch = cc (p.1, fetch) in (
       c.args.claims.now,
       inr refl,
       subst (λ failed. g.H.Shelf.failed c.fetch_file.new.shelf ≡ failed ++ c.args.claims.now ∷ [])
-          c.in_ok-product.ensures.none_failed (c.in_err-text.ensures.not_fetched same),
+          c.in_ok-product.ensures.none_failed (c.in_err-text.ensures.not_fetched (ap (λ e. Err e) (sym p.2 ∙ one))),
     )
