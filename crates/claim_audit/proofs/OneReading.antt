@@ -78,14 +78,18 @@ one_field_fault : (months : ℕ) (names : List (List ℕ)) (month state reserve 
 one_field_fault months names month state reserve fault.Count b x y = absurd x
 one_field_fault months names month state reserve fault.Month fault.Count x y = absurd y
 one_field_fault months names month state reserve fault.Month fault.Month x y = refl
-one_field_fault months names month state reserve fault.Month fault.State x y = absurd (false≢true (subst IsSome x y.0))
-one_field_fault months names month state reserve fault.Month fault.Reserve x y = absurd (false≢true (subst IsSome x y.0))
+one_field_fault months names month state reserve fault.Month fault.State x y =
+    absurd (false≢true (subst IsSome x y.0))
+one_field_fault months names month state reserve fault.Month fault.Reserve x y =
+    absurd (false≢true (subst IsSome x y.0))
 one_field_fault months names month state reserve fault.State fault.Count x y = absurd y
-one_field_fault months names month state reserve fault.State fault.Month x y = absurd (false≢true (subst IsSome y x.0))
+one_field_fault months names month state reserve fault.State fault.Month x y =
+    absurd (false≢true (subst IsSome y x.0))
 one_field_fault months names month state reserve fault.State fault.State x y = refl
 one_field_fault months names month state reserve fault.State fault.Reserve x y = absurd (y.1 x.1)
 one_field_fault months names month state reserve fault.Reserve fault.Count x y = absurd y
-one_field_fault months names month state reserve fault.Reserve fault.Month x y = absurd (false≢true (subst IsSome y x.0))
+one_field_fault months names month state reserve fault.Reserve fault.Month x y =
+    absurd (false≢true (subst IsSome y x.0))
 one_field_fault months names month state reserve fault.Reserve fault.State x y = absurd (x.1 y.1)
 one_field_fault months names month state reserve fault.Reserve fault.Reserve x y = refl
 
@@ -155,7 +159,8 @@ one_wrong_row : (months : ℕ) (names : List (List ℕ)) (text : List ℕ) (row 
     → IsFirstWrongIn months names text row part → IsFirstWrongIn months names text other other_part
     → (row ≡ other) × (part ≡ other_part)
 one_wrong_row months names text row part other other_part x y =
-    by x.2 (subst (λ records. IsFirstWrong months names records other other_part) (one_records text y.0 x.0 y.1 x.1) y.2)
+    let same = one_records text y.0 x.0 y.1 x.1 in
+    by x.2 (subst (λ records. IsFirstWrong months names records other other_part) same y.2)
   where
     by : IsFirstWrong months names x.0 row part → IsFirstWrong months names x.0 other other_part
         → (row ≡ other) × (part ≡ other_part)

@@ -1,6 +1,6 @@
 -- What the words of the command line ask for. This product's own.
-use Rattle.std.specs.Prelude.{◌≡◌, ℕ, ◌<◌, ◌≤◌, ◌^◌, ℤ, List, [], ◌∷◌, codes, decimal, length, String, string_bytes, map}
-use Rattle.std.specs.Prelude.{Some}
+use Rattle.std.specs.Prelude.{◌≡◌, ℕ, ◌<◌, ◌≤◌, ◌^◌, ℤ, List, [], ◌∷◌, codes, decimal, length}
+use Rattle.std.specs.Prelude.{String, string_bytes, map, Some}
 use Rattle.std.specs.declared.alloc.Global.{Global}
 use Rattle.decimal_in.specs.Decimals.{unsigned_millionths_of}
 

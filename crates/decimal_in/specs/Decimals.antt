@@ -1,6 +1,7 @@
 -- Numbers in texts of bytes, this product's own: whole numbers, and decimals with up to six digits after a point.
-use Rattle.std.specs.Prelude.{◌≡◌, ℕ, ◌+◌, ◌-◌, ◌*◌, ◌^◌, ◌<◌, Bool, not, ◌&&◌, ◌==◌, nat_le, nat_lt, List, length, take, drop}
-use Rattle.std.specs.Prelude.{slice_index, fold, ℤ, pos, neg_ℤ, Option, Some, None, option_map, if◌then◌else◌}
+use Rattle.std.specs.Prelude.{◌≡◌, ℕ, ◌+◌, ◌-◌, ◌*◌, ◌^◌, ◌<◌, Bool, not, ◌&&◌, ◌==◌, nat_le, nat_lt, List, length}
+use Rattle.std.specs.Prelude.{take, drop, slice_index, fold, ℤ, pos, neg_ℤ, Option, Some, None}
+use Rattle.std.specs.Prelude.{option_map, if◌then◌else◌}
 use Rattle.std.specs.Char.{is_ascii_digit}
 use Rattle.std.specs.List.{list_all, position_or_len}
 
