@@ -108,6 +108,32 @@ sed -e 's/396094500958/792189001916/' -e 's/c = \[-1\]/c = [0]/' "$top/tests/fil
 try 'a hybrid whose bound is too large' 13 $'refused derived rule 18 place 0\n' \
   compare "$work/doubled.toml" "$top/tests/files/largest-bound.toml" 1
 
+# the flat file's interval of 384 at issue, by hand, is near one of three numbers, far from one, and neither from one
+audited=$'audit flat\ndegree 8 eps 0.000001\n0 on 384.000000 383.999999 384.000001 yes\n'
+audited+=$'0 on 384.000003 383.999999 384.000001 no\n0 on 384.000001 383.999999 384.000001 undecided\n'
+audited+=$'end yes 1 no 1 undecided 1\n'
+printf 'month,state,reserve\n0,on,384\n0,on,384.000003\n0,on,384.000001\n' >"$work/claims.csv"
+try 'three claims' 0 "$audited" audit "$top/examples/flat.toml" "$work/claims.csv" 0.000001
+# a byte order mark, quotes, carriage returns, an empty line, and no end of the last line
+printf '\xef\xbb\xbf"month","state",reserve\r\n0,"on",384\r\n\r\n0,on,384.000003\r\n0,on,"384.000001"' >"$work/sheet.csv"
+try 'claims as a spreadsheet writes them' 0 "$audited" audit "$top/examples/flat.toml" "$work/sheet.csv" 0.000001
+printf 'month,state,reserve\n' >"$work/header.csv"
+try 'no claims' 0 $'audit flat\ndegree 8 eps 0.000000\nend yes 0 no 0 undecided 0\n' \
+  audit "$top/examples/flat.toml" "$work/header.csv" 0
+printf 'month,state,reserve\n0,on,384\n13,on,0\n0,off,x\n' >"$work/past.csv"
+try 'a claim past the term' 14 $'refused row 2 part 2\n' audit "$top/examples/flat.toml" "$work/past.csv" 0.1
+printf 'month,state,reserve\n0,off,x\n' >"$work/state.csv"
+try 'a claim about no state' 14 $'refused row 1 part 3\n' audit "$top/examples/flat.toml" "$work/state.csv" 0.1
+printf 'month,state,reserve\n0,on,3e2\n' >"$work/reserve.csv"
+try 'a claim that is no decimal' 14 $'refused row 1 part 4\n' audit "$top/examples/flat.toml" "$work/reserve.csv" 0.1
+printf 'month,state,reserve\n0,on\n' >"$work/fields.csv"
+try 'a claim of two fields' 14 $'refused row 1 part 1\n' audit "$top/examples/flat.toml" "$work/fields.csv" 0.1
+try 'an empty file of claims' 14 $'refused row 0 part 0\n' audit "$top/examples/flat.toml" /dev/null 0.1
+try 'a file of claims of 1,048,577 bytes' 11 $'refused second length 1048577\n' \
+  audit "$top/examples/flat.toml" "$work/long.toml" 0.1
+try 'a missing file of claims' 3 '' audit "$top/examples/flat.toml" "$work/missing.csv" 0.1
+try 'a distance with a sign' 2 "$no_reading" audit "$top/examples/flat.toml" "$work/claims.csv" -0.1
+
 try 'a second life of a shorter term' 12 $'refused join part 1\n' \
   join "$top/tests/values/active-annuity.toml" "$top/tests/values/back-and-forth.toml"
 try 'more than twelve pairs of states' 12 $'refused join part 3\n' \

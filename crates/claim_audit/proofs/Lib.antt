@@ -1,7 +1,8 @@
 pub mod ClaimLists
-pub mod Digits
 pub mod FoundClaims
 pub mod Nearness
 pub mod Numbers
+pub mod OneReading
 pub mod RightMarks
+pub mod TextLines
 pub mod ThreeFields

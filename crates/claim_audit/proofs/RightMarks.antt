@@ -1,4 +1,4 @@
--- Claims that are marked by a table of reserves are marked right.
+-- Claims that are marked by a table of reserves are marked right, and are about states of the product.
 use Rattle.std.proofs.Common.{◌≡◌, ℕ, ◌+◌, ◌*◌, ◌<◌, ℤ, List, length, ap, sym, subst, ◌∙◌, arith}
 use Rattle.std.specs.Prelude.{All, ◌↔◌}
 use Rattle.std.proofs.lemmas.List.{get_or_default}
@@ -12,7 +12,9 @@ use Rattle.claim_audit.specs.declared.claims.Claimed.{Claimed}
 use Rattle.claim_audit.specs.declared.findings.Claim.{Claim}
 use Rattle.claim_audit.specs.declared.finding.Finding.{Finding}
 use Rattle.claim_audit.specs.declared.finding.Finding.TheVariants as finding
-use Rattle.claim_audit.specs.Audits.{IsMarkedRight, reserve_at, tolerance_at}
+use Rattle.claim_audit.specs.declared.auditing.Audited.{Audited}
+use Rattle.claim_audit.specs.AuditText.{AreAboutStates}
+use Rattle.claim_audit.specs.Audits.{IsAudit, IsMarkedRight, reserve_at, tolerance_at}
 use Rattle.claim_audit.specs.Claims.{IsClaim}
 use Rattle.claim_audit.specs.Findings.{AreFound, IsFound, ends_of, found_at}
 use Rattle.claim_audit.specs.Marks.{IsNear, IsFar}
@@ -81,3 +83,13 @@ claims_are_right product text eps claimed table claims are_reserves read found k
     each.yes each.no in
     subst (IsMarkedRight product table.degree eps) (get_or_default claims k _ d within)
     (subst (IsMarkedRight product table.degree eps) (sym (found_is _ _ eps (found_at claims k) each)) right)
+
+-- and is about a state of the product
+pub claims_are_about_states : (product : Product) (text : List ℕ) (eps : ℤ) (audited : Audited)
+    → IsAudit product text eps audited → AreAboutStates product audited
+claims_are_about_states product text eps audited is k d within =
+    let inside : k < length is.claimed = omega (arith, within, is.found.count) in
+    let claim = is.read.3.each k inside in
+    let there = slice_get_within product.states (claim_at is.claimed k).state claim.state claim.says.state_is in
+    subst (λ claim. claim.state < length product.states) (get_or_default audited.claims.items k _ d within)
+    (subst (λ state. state < length product.states) (sym (is.found.each k inside).state_is) there)

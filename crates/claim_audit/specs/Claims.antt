@@ -4,7 +4,7 @@ use Rattle.std.specs.Prelude.{◌<◌, ◌^◌, unsigned_abs, Some, None, IsSome
 use Rattle.claim_audit.specs.declared.claims.Claimed.{Claimed}
 use Rattle.claim_audit.specs.declared.claims.Fault.{Fault}
 use Rattle.claim_audit.specs.declared.claims.Fault.TheVariants as fault
-use Rattle.claim_audit.specs.Decimals.{whole_of, millionths_of}
+use Rattle.decimal_in.specs.Decimals.{whole_of, millionths_of}
 
 -- the fields of the first record
 abbrev pub header : List (List ℕ)

@@ -1,6 +1,6 @@
+pub mod AuditText
 pub mod Audits
 pub mod Claims
-pub mod Decimals
 pub mod Findings
 pub mod Marks
 pub mod Readings

@@ -56,11 +56,14 @@ abbrev pub TellsWrong : ℕ → List (List ℕ) → List (List (List ℕ)) → A
 TellsWrong months names records (error.Row found) = IsFirstWrong months names records found.row found.part
 TellsWrong months names records error.Memory = ⊤
 
--- the same of the records of a CSV text
+-- the first row of a CSV text that is wrong and its part
+abbrev pub IsFirstWrongIn : ℕ → List (List ℕ) → (text : List ℕ) → (row part : ℕ) → Type 0
+IsFirstWrongIn months names text row part =
+    (records : List (List (List ℕ))) × AreRecordsOf text records × IsFirstWrong months names records row part
+
+-- an error tells of the first row of a CSV text that is wrong, or of nothing
 abbrev pub TellsWrongIn : ℕ → List (List ℕ) → (text : List ℕ) → AuditError → Type 0
-TellsWrongIn months names text (error.Row found) =
-    (records : List (List (List ℕ))) × AreRecordsOf text records
-    × IsFirstWrong months names records found.row found.part
+TellsWrongIn months names text (error.Row found) = IsFirstWrongIn months names text found.row found.part
 TellsWrongIn months names text error.Memory = ⊤
 
 -- the claims of a CSV text: its first record is the header, and the others are these claims
@@ -68,3 +71,14 @@ abbrev pub AreClaimsIn : ℕ → List (List ℕ) → (text : List ℕ) → List 
 AreClaimsIn months names text claims =
     (records : List (List (List ℕ))) × AreRecordsOf text records × HaveHeader records
     × AreClaims months names records claims
+
+-- a CSV text has claims or a first wrong row, not both, and one such row with one first wrong part
+pub record HasOneReading (months : ℕ) (names : List (List ℕ)) (text : List ℕ) : Type 0 where
+  pub not_both : (claims : List Claimed) (row part : ℕ) → AreClaimsIn months names text claims
+      → IsFirstWrongIn months names text row part → ⊥
+  pub one_wrong : (row part other other_part : ℕ) → IsFirstWrongIn months names text row part
+      → IsFirstWrongIn months names text other other_part → (row ≡ other) × (part ≡ other_part)
+
+-- the same of each text, whatever the term and the states
+abbrev pub TextsHaveOneReading : Type 0
+TextsHaveOneReading = (months : ℕ) (names : List (List ℕ)) (text : List ℕ) → HasOneReading months names text

@@ -4,8 +4,8 @@ ghost use Rattle.csv.specs.Records.{fields_of};
 ghost use Rattle.claim_audit.specs.Claims.{header, month_of, part_of, HasFault, IsClaim};
 ghost use Rattle.claim_audit.specs.Claims.{FieldsHaveFault, FieldsSayClaim};
 
-use crate::decimals::{millionths, whole};
 use csv::ByteRecord;
+use decimal_in::{millionths, whole};
 use state_graph::Graph;
 
 // The most digits of a month.

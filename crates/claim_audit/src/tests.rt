@@ -1,6 +1,6 @@
 mod audits;
 
-use crate::{AuditError, Claimed, Finding, findings_of, mark, millionths, read_claims};
+use crate::{AuditError, Claimed, Finding, findings_of, mark, read_claims};
 use fixed_interval::{Printed, Table};
 use rule_breaks::RowBreak;
 use state_graph::Graph;
@@ -38,35 +38,6 @@ fn marks_by_hand(rt: HostRuntime) -> Result<(), Fail> {
         (-5, 0, -6, -6, Finding::No),
     ] {
         assert_eq!(rt; mark(claim, eps, lo, hi), wanted);
-    }
-    Ok(())
-}
-
-#[test]
-fn decimals_are_read(rt: HostRuntime) -> Result<(), Fail> {
-    for (text, wanted) in [
-        ("0", Some(0)),
-        ("-0.0", Some(0)),
-        ("9443.264167", Some(9_443_264_167)),
-        ("-1.5", Some(-1_500_000)),
-        ("0.000001", Some(1)),
-        (
-            "999999999999999999.999999",
-            Some(999_999_999_999_999_999_999_999),
-        ),
-        ("1000000000000000000", None),
-        ("007", None),
-        ("1.", None),
-        (".5", None),
-        ("+1", None),
-        ("1e3", None),
-        ("1.1234567", None),
-        ("1.2.3", None),
-        ("--1", None),
-        ("-", None),
-        ("", None),
-    ] {
-        assert_eq!(rt; millionths(text.as_bytes()), wanted);
     }
     Ok(())
 }

@@ -1,9 +1,10 @@
 -- Words have at most one reading: a request can be made again from the words, by the command's first two letters.
 use Rattle.std.proofs.Common.{◌≡◌, ℕ, ◌+◌, ◌*◌, ◌<◌, ◌^◌, List, [], decimal, refl, ap, sym, ◌∙◌, arith, get_or, lit<}
-use Rattle.std.specs.Prelude.{◌==◌, if◌then◌else◌}
+use Rattle.std.specs.Prelude.{◌==◌, if◌then◌else◌, ℤ, pos, Option, Some, None}
 use Rattle.std.proofs.lemmas.Fmt.{decimal_injective}
+use Rattle.decimal_in.specs.Decimals.{unsigned_millionths_of}
 use Rattle.command_words.specs.Readings.{Request, Check, Value, Reserves, Occupancy, Moments, Premium, Generate}
-use Rattle.command_words.specs.Readings.{Load, Upgrade, Join, Compare, AreReadAs, ReadingsAreOne}
+use Rattle.command_words.specs.Readings.{Load, Upgrade, Join, Compare, Audit, AreReadAs, ReadingsAreOne}
 
 -- a word by its place, and the first two letters of the first word, as one number
 abbrev word-at : ℕ → List (List ℕ) → List ℕ
@@ -12,15 +13,24 @@ word-at i words = get_or words i []
 abbrev letters : List (List ℕ) → ℕ
 letters words = 1000 * get_or (word-at 0 words) 0 0 + get_or (word-at 0 words) 1 0
 
--- the request with these letters, files and number
-abbrev make : ℕ → (file second : List ℕ) → ℕ → Request
-make first file second number =
+-- the distance that a word stands for, if any
+abbrev distance-in : List ℕ → ℤ
+distance-in word = or_none (unsigned_millionths_of word)
+  where
+    or_none : Option ℤ → ℤ
+    or_none None = pos 0
+    or_none (Some distance) = distance
+
+-- the request with these letters, files, number and distance
+abbrev make : ℕ → (file second : List ℕ) → ℤ → ℕ → Request
+make first file second distance number =
     if first == 99104 then Check file else (if first == 118097 then Value file
     else (if first == 112114 then Premium file else (if first == 114101 then Reserves file number
     else (if first == 111099 then Occupancy file number else (if first == 109111 then Moments file number
     else (if first == 99111 then Compare file second number else (if first == 117112 then Upgrade file
     else (if first == 106111 then Join file second else (if first == 108111 then Load number
-    else Generate number)))))))))
+    else (if first == 97117 then Audit file second distance
+    else Generate number))))))))))
 
 -- where its number stands: the second word where there is a seed, the third or fourth of requests at dates, and else nowhere
 abbrev text : ℕ → List (List ℕ) → List ℕ
@@ -42,9 +52,10 @@ number-of (Load seed) = seed
 number-of (Upgrade file) = 0
 number-of (Join first second) = 0
 number-of (Compare first second every) = every
+number-of (Audit file claims eps) = 0
 
 made : (words : List (List ℕ)) (a : Request) → AreReadAs words a
-    → a ≡ make (letters words) (word-at 1 words) (word-at 2 words) (number-of a)
+    → a ≡ make (letters words) (word-at 1 words) (word-at 2 words) (distance-in (word-at 3 words)) (number-of a)
 made words (Check file) a = rw (ap letters a.are, ap (word-at 1) a.are) refl
 made words (Value file) a = rw (ap letters a.are, ap (word-at 1) a.are) refl
 made words (Reserves file every) a = rw (ap letters a.are, ap (word-at 1) a.are) refl
@@ -57,6 +68,8 @@ made words (Upgrade file) a = rw (ap letters a.are, ap (word-at 1) a.are) refl
 made words (Join first second) a = rw (ap letters a.are, ap (word-at 1) a.are, ap (word-at 2) a.are) refl
 made words (Compare first second every) a =
     rw (ap letters a.are, ap (word-at 1) a.are, ap (word-at 2) a.are) refl
+made words (Audit file claims eps) a =
+    rw (ap letters a.are, ap (word-at 1) a.are, ap (word-at 2) a.are, ap (word-at 3) a.are, a.reads) refl
 
 written : (words : List (List ℕ)) (a : Request) → AreReadAs words a
     → decimal (number-of a) ≡ text (letters words) words
@@ -71,6 +84,7 @@ written words (Load seed) a = rw (ap letters a.are) (sym (ap (word-at 1) a.are))
 written words (Upgrade file) a = rw (ap letters a.are) refl
 written words (Join first second) a = rw (ap letters a.are) refl
 written words (Compare first second every) a = rw (ap letters a.are) (sym (ap (word-at 3) a.are))
+written words (Audit file claims eps) a = rw (ap letters a.are) refl
 
 fits : (words : List (List ℕ)) (a : Request) → AreReadAs words a → number-of a < 2 ^ 64
 fits words (Check file) a = lit< tt
@@ -84,9 +98,12 @@ fits words (Load seed) a = a.fits
 fits words (Upgrade file) a = lit< tt
 fits words (Join first second) a = lit< tt
 fits words (Compare first second every) a = omega (arith, a.most)
+fits words (Audit file claims eps) a = lit< tt
 
 pub readings_are_one : ReadingsAreOne
 readings_are_one words a b x y =
     let numbers : number-of a ≡ number-of b =
     decimal_injective _ _ (fits words a x) (fits words b y) (written words a x ∙ sym (written words b y)) in
-    made words a x ∙ ap (make (letters words) (word-at 1 words) (word-at 2 words)) numbers ∙ sym (made words b y)
+    made words a x
+    ∙ ap (make (letters words) (word-at 1 words) (word-at 2 words) (distance-in (word-at 3 words))) numbers
+    ∙ sym (made words b y)

@@ -1,12 +1,15 @@
 -- What the words of the command line ask for. This product's own.
-use Rattle.std.specs.Prelude.{◌≡◌, ℕ, ◌<◌, ◌≤◌, ◌^◌, List, [], ◌∷◌, codes, decimal, length, String, string_bytes, map}
+use Rattle.std.specs.Prelude.{◌≡◌, ℕ, ◌<◌, ◌≤◌, ◌^◌, ℤ, List, [], ◌∷◌, codes, decimal, length}
+use Rattle.std.specs.Prelude.{String, string_bytes, map, Some}
 use Rattle.std.specs.declared.alloc.Global.{Global}
+use Rattle.decimal_in.specs.Decimals.{unsigned_millionths_of}
 
 -- the bytes of the words
 abbrev pub words_of : List (String Global) → List (List ℕ)
 words_of words = map string_bytes words
 
--- what can be asked for: of a file or of two by their names; at each so many months; or of a seed
+-- what can be asked for: of a file or of two by their names; at each so many months; of a seed; or of a file and of
+-- claims about it, to so many millionths
 pub data Request : Type 0 where
   Check : List ℕ → Request
   Value : List ℕ → Request
@@ -19,6 +22,7 @@ pub data Request : Type 0 where
   Upgrade : List ℕ → Request
   Join : List ℕ → List ℕ → Request
   Compare : List ℕ → List ℕ → ℕ → Request
+  Audit : List ℕ → List ℕ → ℤ → Request
 
 -- the words are a command and the name of a file, which has at least one byte
 pub record AsksOfFile (words : List (List ℕ)) (command file : List ℕ) : Type 0 where
@@ -46,6 +50,14 @@ pub record AsksOfFilesAtDates (words : List (List ℕ)) (command first second : 
   pub least : 1 ≤ every
   pub most : every ≤ 1200
 
+-- the words are `audit`, the names of a product file and of a file of claims, and a decimal without a sign
+pub record AsksOfClaims (words : List (List ℕ)) (file claims : List ℕ) (eps : ℤ) : Type 0 where
+  pub distance : List ℕ
+  pub are : words ≡ codes "audit" ∷ file ∷ claims ∷ distance ∷ []
+  pub file_named : 0 < length file
+  pub claims_named : 0 < length claims
+  pub reads : unsigned_millionths_of distance ≡ Some eps
+
 -- the words are a command and a number below 2^64 in decimal
 pub record AsksOfSeed (words : List (List ℕ)) (command : List ℕ) (seed : ℕ) : Type 0 where
   pub are : words ≡ command ∷ decimal seed ∷ []
@@ -64,6 +76,7 @@ AreReadAs words (Load seed) = AsksOfSeed words (codes "load") seed
 AreReadAs words (Upgrade file) = AsksOfFile words (codes "upgrade") file
 AreReadAs words (Join first second) = AsksOfFiles words (codes "join") first second
 AreReadAs words (Compare first second every) = AsksOfFilesAtDates words (codes "compare") first second every
+AreReadAs words (Audit file claims eps) = AsksOfClaims words file claims eps
 
 -- the words have a reading
 abbrev pub HaveReading : List (List ℕ) → Type 0

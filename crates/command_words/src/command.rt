@@ -5,6 +5,7 @@ ghost use Rattle.command_words.specs.Commands.{request_of};
 ghost use Rattle.command_words.specs.Readings.{words_of, AreReadAs, HaveReading};
 
 use crate::number::number_of;
+use decimal_in::unsigned_millionths;
 
 // The most months between dates.
 const MOST_EVERY: u64 = 1200;
@@ -34,6 +35,9 @@ pub enum Command<'a> {
     Join(&'a str, &'a str),
     /// The changes of the reserves from the basis of the first file to that of the second, at these dates.
     Compare(&'a str, &'a str, u32),
+    /// Which of the claims in the second file are near the reserves of the product in the first one: at most so many
+    /// millionths of a minor unit away.
+    Audit(&'a str, &'a str, i128),
 }
 
 // A command about one file, or one seed.
@@ -101,25 +105,24 @@ fn three_words<'a>(command: &str, file: &'a str, last: &'a str) -> Option<Comman
     }
 }
 
-// A command about two files at dates.
-fn four_words<'a>(
-    command: &str,
-    first: &'a str,
-    second: &'a str,
-    every: &str,
-) -> Option<Command<'a>>
+// A command about two files, at dates or to a distance.
+fn four_words<'a>(command: &str, first: &'a str, second: &'a str, last: &str) -> Option<Command<'a>>
     ensures some { IfSome result (λ read.
-        AreReadAs (command.now ∷ first.now ∷ second.now ∷ every.now ∷ []) (request_of read)) }
-    ensures none { IfNone result (¬ HaveReading (command.now ∷ first.now ∷ second.now ∷ every.now ∷ [])) }
+        AreReadAs (command.now ∷ first.now ∷ second.now ∷ last.now ∷ []) (request_of read)) }
+    ensures none { IfNone result (¬ HaveReading (command.now ∷ first.now ∷ second.now ∷ last.now ∷ [])) }
 {
-    let Some(every) = months_of(every) else {
-        return None;
-    };
     if first.is_empty() || second.is_empty() {
         return None;
     }
     match command {
-        "compare" => Some(Command::Compare(first, second, every)),
+        "compare" => match months_of(last) {
+            Some(every) => Some(Command::Compare(first, second, every)),
+            None => None,
+        },
+        "audit" => match unsigned_millionths(last.as_bytes()) {
+            Some(eps) => Some(Command::Audit(first, second, eps)),
+            None => None,
+        },
         _ => None,
     }
 }
@@ -132,12 +135,12 @@ pub fn read_words(words: &[String]) -> Option<Command<'_>>
     match words {
         [command, word] => two_words(command.as_str(), word.as_str()),
         [command, file, every] => three_words(command.as_str(), file.as_str(), every.as_str()),
-        [command, first, second, every] => {
+        [command, first, second, last] => {
             four_words(
                 command.as_str(),
                 first.as_str(),
                 second.as_str(),
-                every.as_str(),
+                last.as_str(),
             )
         }
         _ => None,

@@ -3,7 +3,7 @@ use Rattle.std.specs.Prelude.{◌≡◌, ◌≢◌, ◌⊎◌, ℕ, ◌<◌, ◌
 use Rattle.std.specs.Prelude.{Option, Some, None, IsSome, IsUtf8, if◌then◌else◌}
 use Rattle.model_specs.specs.Names.{IsGoodName}
 use Rattle.claim_audit.specs.Claims.{month_of}
-use Rattle.claim_audit.specs.Decimals.{whole_of}
+use Rattle.decimal_in.specs.Decimals.{whole_of}
 use Rattle.portfolio_run.specs.declared.fields.Fault.{Fault}
 use Rattle.portfolio_run.specs.declared.fields.Fault.TheVariants as fault
 use Rattle.portfolio_run.specs.Names.{is_among}

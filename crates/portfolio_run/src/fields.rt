@@ -7,8 +7,9 @@ ghost use Rattle.portfolio_run.specs.Holdings.{count_of, header, part_of, AreRig
 ghost use Rattle.portfolio_run.specs.Holdings.{IsFileName};
 
 use crate::names::Names;
-use claim_audit::{month, whole};
+use claim_audit::month;
 use csv::ByteRecord;
+use decimal_in::whole;
 
 // The most different files.
 const MOST_FILES: usize = 16;

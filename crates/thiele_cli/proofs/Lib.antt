@@ -1,4 +1,5 @@
 pub mod Answered
+pub mod AuditedClaims
 pub mod Causes
 pub mod Comparisons
 pub mod Growth

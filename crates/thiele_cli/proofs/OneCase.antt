@@ -8,10 +8,10 @@ use Rattle.product_file.specs.Verdict.{IsNotToml, Breaks}
 use Rattle.command_words.proofs.Readings.{readings_are_one}
 use Rattle.thiele_cli.specs.declared.file_break.FileBreak.{FileBreak}
 use Rattle.thiele_cli.specs.declared.file_break.FileBreak.TheVariants as file
-use Rattle.thiele_cli.specs.Questions.{Asked, OfFile, OfFiles, OfSeed, LoadOf, asked_of}
+use Rattle.thiele_cli.specs.Questions.{Asked, OfFile, OfFiles, OfSeed, LoadOf, OfClaims, asked_of}
 use Rattle.thiele_cli.specs.Cases.{Files, IsLong, AreBytesOf, HasFault, HasProduct}
-use Rattle.thiele_cli.specs.Cases.{Case, FirstRefused, SecondRefused, Answered, AnsweredOfTwo}
-use Rattle.thiele_cli.specs.Cases.{IsFileCase, IsSecondCase, IsAskedCase, IsCase}
+use Rattle.thiele_cli.specs.Cases.{Case, FirstRefused, SecondRefused, Answered, AnsweredOfTwo, AnsweredOfClaims}
+use Rattle.thiele_cli.specs.Cases.{IsFileCase, IsSecondCase, IsTextCase, IsClaimsCase, IsAskedCase, IsCase}
 use Rattle.thiele_cli.proofs.Verdicts.{one-product, one-break, valid-or-broken, toml-or-broken, toml-or-valid}
 
 -- ---- files
@@ -85,6 +85,18 @@ one_file_case files name refused IsRest a b one_rest (inr x) (inl y) =
 one_file_case files name refused IsRest a b one_rest (inr x) (inr y) =
     one_rest y.0 a b (subst (λ product. IsRest product a) (one_file_product files name x.0 y.0 x.1 y.1) x.2) y.2
 
+-- so does a file that is no product file
+one_text_case : (files : List (List ℕ × List ℕ)) (name : List ℕ) (refused : FileBreak → Case)
+    (IsRest : List ℕ → Case → Type 0) (a b : Case)
+    → ((text : List ℕ) (a b : Case) → IsRest text a → IsRest text b → a ≡ b)
+    → IsTextCase (Some files) name refused IsRest a → IsTextCase (Some files) name refused IsRest b → a ≡ b
+one_text_case files name refused IsRest a b one_rest (inl x) (inl y) =
+    x.2 ∙ ap refused (one_fault files name (file.TooLong x.0) (file.TooLong y.0) x.1 y.1) ∙ sym y.2
+one_text_case files name refused IsRest a b one_rest (inl x) (inr y) = absurd (not_long files name y.0 y.1 x.1.0)
+one_text_case files name refused IsRest a b one_rest (inr x) (inl y) = absurd (not_long files name x.0 x.1 y.1.0)
+one_text_case files name refused IsRest a b one_rest (inr x) (inr y) =
+    one_rest y.0 a b (subst (λ text. IsRest text a) (one_text files name x.0 y.0 x.1 y.1) x.2) y.2
+
 one_asked_case : (files : List (List ℕ × List ℕ)) (asked : Asked) (a b : Case) → IsAskedCase (Some files) asked a
     → IsAskedCase (Some files) asked b → a ≡ b
 one_asked_case files (OfFile what name) a b x y =
@@ -96,6 +108,10 @@ one_asked_case files (OfFiles what first second) a b x y =
     (λ new e f u v. u ∙ sym v) s t) x y
 one_asked_case files (OfSeed seed) a b x y = x ∙ sym y
 one_asked_case files (LoadOf seed) a b x y = x ∙ sym y
+one_asked_case files (OfClaims name claims eps) a b x y =
+    one_file_case files name FirstRefused (IsClaimsCase (Some files) eps claims) a b
+    (λ product c d s t. one_text_case files claims SecondRefused (λ text rest. rest ≡ AnsweredOfClaims eps product text)
+    c d (λ text e f u v. u ∙ sym v) s t) x y
 
 -- words over told files are of one case
 pub one_case : (files : Files) (words : List (List ℕ)) (a b : Case) → IsSome files → IsCase files words a

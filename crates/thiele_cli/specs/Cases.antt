@@ -1,5 +1,5 @@
 -- What the words and the files that they name come to, for the files that a shelf tells.
-use Rattle.std.specs.Prelude.{◌≡◌, ◌⊎◌, ℕ, ◌+◌, ◌≤◌, List, ⊤, Option, Some, None, length}
+use Rattle.std.specs.Prelude.{◌≡◌, ◌⊎◌, ℕ, ◌+◌, ◌≤◌, ℤ, List, ⊤, Option, Some, None, length}
 use Rattle.named_numbers.specs.Numbers.{most_file_bytes}
 use Rattle.io_ports.specs.Files.{file_of, IsLonger}
 use Rattle.rule_breaks.specs.Breaks.{break_of}
@@ -10,7 +10,7 @@ use Rattle.thiele_cli.specs.declared.file_break.FileBreak.{FileBreak}
 use Rattle.thiele_cli.specs.declared.file_break.FileBreak.TheVariants as file
 use Rattle.thiele_cli.specs.declared.question.Question.{Question}
 use Rattle.thiele_cli.specs.declared.pair_question.PairQuestion.{PairQuestion}
-use Rattle.thiele_cli.specs.Questions.{Asked, OfFile, OfFiles, OfSeed, LoadOf, asked_of}
+use Rattle.thiele_cli.specs.Questions.{Asked, OfFile, OfFiles, OfSeed, LoadOf, OfClaims, asked_of}
 
 -- what a shelf tells of its files: the names with their bytes, or nothing
 abbrev pub Files : Type 0
@@ -43,7 +43,8 @@ abbrev pub HasProduct : Files → List ℕ → Product → Type 0
 HasProduct files name product = (bytes : List ℕ) × AreBytesOf files name bytes × IsValid bytes product
 
 -- what words and files come to: no reading, a seed whose file or whose reserves are asked for, a first or a second
--- file that is refused, or a question about a product or about two that break no rule
+-- file that is refused, a question about a product or about two that break no rule, or a distance, such a product and
+-- the text of claims about it
 pub data Case : Type 0 where
   NoReading : Case
   Generated : ℕ → Case
@@ -52,6 +53,7 @@ pub data Case : Type 0 where
   SecondRefused : FileBreak → Case
   Answered : Question → Product → Case
   AnsweredOfTwo : PairQuestion → Product → Product → Case
+  AnsweredOfClaims : ℤ → Product → List ℕ → Case
 
 -- what a product file comes to: it is refused, or it has a product that comes to the rest
 abbrev pub IsFileCase : Files → List ℕ → (FileBreak → Case) → (Product → Case → Type 0) → Case → Type 0
@@ -64,6 +66,17 @@ abbrev pub IsSecondCase : Files → PairQuestion → List ℕ → Product → Ca
 IsSecondCase files what name old case =
     IsFileCase files name SecondRefused (λ new rest. rest ≡ AnsweredOfTwo what old new) case
 
+-- what a file comes to that is no product file: it is too long, or it has a text that comes to the rest
+abbrev pub IsTextCase : Files → List ℕ → (FileBreak → Case) → (List ℕ → Case → Type 0) → Case → Type 0
+IsTextCase files name refused IsRest case =
+    ((seen : ℕ) × HasFault files name (file.TooLong seen) × (case ≡ refused (file.TooLong seen)))
+    ⊎ ((text : List ℕ) × AreBytesOf files name text × IsRest text case)
+
+-- what a file of claims comes to, where a distance is asked of it and a product
+abbrev pub IsClaimsCase : Files → ℤ → List ℕ → Product → Case → Type 0
+IsClaimsCase files eps name product case =
+    IsTextCase files name SecondRefused (λ text rest. rest ≡ AnsweredOfClaims eps product text) case
+
 -- what a request comes to by what it asks; a second file is looked at only where the first has a product
 abbrev pub IsAskedCase : Files → Asked → Case → Type 0
 IsAskedCase files (OfFile what name) case =
@@ -72,6 +85,8 @@ IsAskedCase files (OfFiles what first second) case =
     IsFileCase files first FirstRefused (IsSecondCase files what second) case
 IsAskedCase files (OfSeed seed) case = case ≡ Generated seed
 IsAskedCase files (LoadOf seed) case = case ≡ Loaded seed
+IsAskedCase files (OfClaims name claims eps) case =
+    IsFileCase files name FirstRefused (IsClaimsCase files eps claims) case
 
 -- what the words come to: they have no reading, or they are read as this request
 abbrev pub IsCase : Files → List (List ℕ) → Case → Type 0

@@ -1,4 +1,5 @@
 pub mod AskedAnswers
+pub mod Audits
 pub mod Cases
 pub mod Comparisons
 pub mod Ends

@@ -1,19 +1,20 @@
 -- What the commands ask, and of which files or seed.
-use Rattle.std.specs.Prelude.{◌≡◌, ◌⊎◌, ℕ, ◌<◌, List, ⊤}
+use Rattle.std.specs.Prelude.{◌≡◌, ◌⊎◌, ℕ, ◌<◌, ℤ, List, ⊤}
 use Rattle.command_words.specs.Readings.{Request, Check, Value, Reserves, Occupancy, Moments, Premium, Generate}
-use Rattle.command_words.specs.Readings.{Load, Upgrade, Join, Compare, AreReadAs}
+use Rattle.command_words.specs.Readings.{Load, Upgrade, Join, Compare, Audit, AreReadAs}
 use Rattle.thiele_cli.specs.declared.question.Question.{Question}
 use Rattle.thiele_cli.specs.declared.question.Question.TheVariants as question
 use Rattle.thiele_cli.specs.declared.pair_question.PairQuestion.{PairQuestion}
 use Rattle.thiele_cli.specs.declared.pair_question.PairQuestion.TheVariants as pair_question
 
--- what is asked: something of the file with this name, something of two files, the product file of a seed, or the
--- reserves of its product
+-- what is asked: something of the file with this name, something of two files, the product file of a seed, the
+-- reserves of its product, or of a product file and a file of claims, which of these are near
 pub data Asked : Type 0 where
   OfFile : Question → List ℕ → Asked
   OfFiles : PairQuestion → List ℕ → List ℕ → Asked
   OfSeed : ℕ → Asked
   LoadOf : ℕ → Asked
+  OfClaims : List ℕ → List ℕ → ℤ → Asked
 
 -- what a request asks
 abbrev pub asked_of : Request → Asked
@@ -28,6 +29,7 @@ asked_of (Load seed) = LoadOf seed
 asked_of (Upgrade file) = OfFile question.Upgraded file
 asked_of (Join first second) = OfFiles pair_question.Joined first second
 asked_of (Compare first second every) = OfFiles (pair_question.Changes every) first second
+asked_of (Audit file claims eps) = OfClaims file claims eps
 
 -- dates that are asked for lie some months apart
 abbrev pub HasDates : Question → Type 0
@@ -58,6 +60,7 @@ IsAskedOf (OfFile what name) file = file ≡ name
 IsAskedOf (OfFiles what first second) file = (file ≡ first) ⊎ (file ≡ second)
 IsAskedOf (OfSeed seed) file = ⊥
 IsAskedOf (LoadOf seed) file = ⊥
+IsAskedOf (OfClaims name claims eps) file = (file ≡ name) ⊎ (file ≡ claims)
 
 -- the words ask something of this file
 abbrev pub AskAbout : List (List ℕ) → List ℕ → Type 0

@@ -4,6 +4,7 @@ use Rattle.std.specs.Prelude.{⊤, Vec}
 use Rattle.std.specs.declared.alloc.Global.{Global}
 use Rattle.named_numbers.specs.Numbers.{highest_degree}
 use Rattle.basis_compare.specs.ChangesText.{HaveText, changes_text}
+use Rattle.claim_audit.specs.AuditText.{AreAboutStates, audit_text}
 use Rattle.model_specs.specs.Product.{Product}
 use Rattle.product_file.specs.Verdict.{ReadsAs, IsValid}
 use Rattle.file_upgrade.specs.Upgraded.{IsOfFormat2}
@@ -32,12 +33,13 @@ use Rattle.thiele_cli.specs.declared.answer.Answer.TheVariants as answer
 use Rattle.thiele_cli.specs.Refusals.{refused_end, line_of}
 use Rattle.thiele_cli.specs.Premiums.{HasClosePremium}
 use Rattle.thiele_cli.specs.MonthGrids.{IsReserveReport}
+use Rattle.thiele_cli.specs.Audits.{AnswersAudit}
 use Rattle.thiele_cli.specs.Comparisons.{AnswersComparison}
 use Rattle.thiele_cli.specs.JointFiles.{AnswersJoin}
 use Rattle.thiele_cli.specs.Loads.{IsLoaded}
 use Rattle.thiele_cli.specs.Valuations.{IsValuation}
 use Rattle.thiele_cli.specs.Cases.{Case, NoReading, Generated, Loaded, FirstRefused, SecondRefused, Answered}
-use Rattle.thiele_cli.specs.Cases.{AnsweredOfTwo}
+use Rattle.thiele_cli.specs.Cases.{AnsweredOfTwo, AnsweredOfClaims}
 
 -- the end of a run with this answer, once its text is written
 abbrev pub end_of : Answer → End
@@ -47,6 +49,7 @@ end_of (answer.Load product report) = end.Done
 end_of (answer.File text) = end.Done
 end_of (answer.Refused why) = refused_end why
 end_of (answer.Changes old new changes) = end.Done
+end_of (answer.Audit product eps audited) = end.Done
 
 -- the report of an answer that is one
 abbrev pub report_of : Answer → Option Report
@@ -56,6 +59,7 @@ report_of (answer.Load product report) = Some report
 report_of (answer.File text) = None
 report_of (answer.Refused why) = None
 report_of (answer.Changes old new changes) = None
+report_of (answer.Audit product eps audited) = None
 
 -- what it has beside a report
 abbrev pub extra_of : Answer → Extra
@@ -65,6 +69,7 @@ extra_of (answer.Load product report) = extra.Nothing
 extra_of (answer.File text) = extra.Nothing
 extra_of (answer.Refused why) = extra.Nothing
 extra_of (answer.Changes old new changes) = extra.Compare changes
+extra_of (answer.Audit product eps audited) = extra.Audit audited
 
 -- the text of an answer, with these columns behind a report
 abbrev pub text_of : Answer → List ColumnText → List ℕ
@@ -74,6 +79,7 @@ text_of (answer.Load product report) columns = load_text product report
 text_of (answer.File text) columns = text.items
 text_of (answer.Refused why) columns = line_of why
 text_of (answer.Changes old new changes) columns = changes_text old new changes
+text_of (answer.Audit product eps audited) columns = audit_text product eps audited
 
 -- a refusal has a line: the number that it tells is not too large for it
 abbrev pub HasLine : Refusal → Type 0
@@ -84,6 +90,7 @@ HasLine (refusal.Premium low) = unsigned_abs low ≤ 2 ^ 100
 HasLine (refusal.Derived found) = ⊤
 HasLine (refusal.Join broken) = ⊤
 HasLine (refusal.Compare broken) = ⊤
+HasLine (refusal.Row broken) = ⊤
 
 -- the answer has a text
 abbrev pub IsPrintable : Answer → Type 0
@@ -93,6 +100,7 @@ IsPrintable (answer.Load product report) = HasText product report
 IsPrintable (answer.File text) = ⊤
 IsPrintable (answer.Refused why) = HasLine why
 IsPrintable (answer.Changes old new changes) = HaveText old changes
+IsPrintable (answer.Audit product eps audited) = AreAboutStates product audited
 
 -- the answer is a report about the product, and it is right in this sense
 abbrev pub Reports : Product → (Report → Type 0) → Answer → Type 0
@@ -152,3 +160,4 @@ Answers (FirstRefused cause) given = given ≡ answer.Refused (refusal.First cau
 Answers (SecondRefused cause) given = given ≡ answer.Refused (refusal.Second cause)
 Answers (Answered asked product) given = AnswersQuestion asked product given
 Answers (AnsweredOfTwo asked old new) given = AnswersOfTwo asked old new given
+Answers (AnsweredOfClaims eps product text) given = AnswersAudit eps product text given

@@ -6,6 +6,7 @@ ghost use Rattle.thiele_cli.specs.Replies.{end_of, report_of, extra_of, text_of,
 use crate::end::{End, Extra};
 use crate::refusal::Refusal;
 use basis_compare::{Changes, changes_bytes};
+use claim_audit::{Audited, audit_bytes};
 use rate_bounds::Admitted;
 use report_columns::Column;
 use reserve_report::{Report, check_bytes, load_bytes, report_bytes};
@@ -26,6 +27,8 @@ pub enum Answer {
     Refused(Refusal),
     /// The changes from the basis of one product to that of another.
     Changes(Admitted, Admitted, Changes),
+    /// What is found of claims about a product, to a distance in millionths of a minor unit.
+    Audit(Admitted, i128, Audited),
 }
 
 impl Answer {
@@ -40,6 +43,7 @@ impl Answer {
             Answer::File(_) => End::Done,
             Answer::Refused(why) => why.end(),
             Answer::Changes(..) => End::Done,
+            Answer::Audit(..) => End::Done,
         }
     }
 
@@ -63,6 +67,9 @@ impl Answer {
             Answer::Changes(old, new, changes) => {
                 changes_bytes(alloc, old.product(), new.product(), changes)
             }
+            Answer::Audit(admitted, eps, audited) => {
+                audit_bytes(alloc, admitted.product(), *eps, audited)
+            }
         }
     }
 
@@ -78,6 +85,7 @@ impl Answer {
             Answer::File(_) => (None, Extra::Nothing),
             Answer::Refused(_) => (None, Extra::Nothing),
             Answer::Changes(_, _, changes) => (None, Extra::Compare(changes)),
+            Answer::Audit(_, _, audited) => (None, Extra::Audit(audited)),
         }
     }
 }

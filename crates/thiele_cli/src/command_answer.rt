@@ -7,6 +7,7 @@ ghost use Rattle.thiele_cli.specs.Replies.{IsGenerated, IsPrintable};
 ghost use Rattle.thiele_cli.specs.AskedAnswers.{AnswersAsked};
 
 use crate::answer::Answer;
+use crate::auditing::claims_answer;
 use crate::fault::Fault;
 use crate::fetching::file_verdict;
 use crate::inquiry::{Inquiry, inquiry_of};

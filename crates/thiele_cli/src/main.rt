@@ -2,6 +2,7 @@
 #![tactic(auto)]
 
 mod answer;
+mod auditing;
 mod command_answer;
 mod comparison;
 mod end;

@@ -1,3 +1,4 @@
+mod audits;
 mod columns;
 mod comparisons;
 mod damages;

@@ -1,6 +1,6 @@
 use Rattle.std.proofs.Common.{◌≤◌, length, arith}
-use Rattle.claim_audit.proofs.Digits.{six_digits}
-use Rattle.claim_audit.proofs.decimals.fraction.Goals as goal
+use Rattle.decimal_in.proofs.Digits.{six_digits}
+use Rattle.decimal_in.proofs.decimals.fraction.Goals as goal
 
 pub returns-then-are_digits-clause-small : goal.returns-then-are_digits-clause-small
 returns-then-are_digits-clause-small c =

@@ -1,5 +1,5 @@
 use Rattle.std.proofs.Common.{◌≡◌, ℕ, ◌<◌, false, eqb, get_or}
-use Rattle.claim_audit.proofs.decimals.point.Given as goal
+use Rattle.decimal_in.proofs.decimals.point.Given as goal
 
 abbrev pub invariant-loop-i : goal.invariant-loop-i
 invariant-loop-i l = (k : ℕ) → k < l.i → eqb (get_or l.text k 0) 46 ≡ false

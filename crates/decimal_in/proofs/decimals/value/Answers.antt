@@ -1,6 +1,6 @@
 use Rattle.std.proofs.Common.{◌<◌, arith}
-use Rattle.claim_audit.proofs.Digits.{has_room}
-use Rattle.claim_audit.proofs.decimals.value.Goals as goal
+use Rattle.decimal_in.proofs.Digits.{has_room}
+use Rattle.decimal_in.proofs.decimals.value.Goals as goal
 
 pub overflow_mul-sum : goal.overflow_mul-sum
 overflow_mul-sum c =

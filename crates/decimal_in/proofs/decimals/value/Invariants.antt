@@ -1,6 +1,6 @@
 use Rattle.std.proofs.Common.{◌≡◌, ◌<◌, ◌^◌, take}
-use Rattle.claim_audit.specs.Decimals.{value_of}
-use Rattle.claim_audit.proofs.decimals.value.Given as goal
+use Rattle.decimal_in.specs.Decimals.{value_of}
+use Rattle.decimal_in.proofs.decimals.value.Given as goal
 
 abbrev pub invariant-loop-digit : goal.invariant-loop-digit
 invariant-loop-digit l = record {

@@ -1,6 +1,6 @@
 use Rattle.std.proofs.Common.{◌≤◌, length, eqb, sym, arith, rules}
 use Rattle.std.proofs.lemmas.List.Sums.{position_or_len_is}
-use Rattle.claim_audit.proofs.decimals.point.Goals as goal
+use Rattle.decimal_in.proofs.decimals.point.Goals as goal
 
 pub returns-then-byte-eq46 : goal.returns-then-byte-eq46
 returns-then-byte-eq46 c =

@@ -1,6 +1,7 @@
--- Numbers as texts of bytes, this product's own: whole numbers, and decimals with up to six digits after a point.
-use Rattle.std.specs.Prelude.{ℕ, ◌+◌, ◌-◌, ◌*◌, ◌^◌, Bool, not, ◌&&◌, ◌==◌, nat_le, nat_lt, List, length, take, drop}
-use Rattle.std.specs.Prelude.{slice_index, fold, ℤ, pos, neg_ℤ, Option, Some, None, option_map, if◌then◌else◌}
+-- Numbers in texts of bytes, this product's own: whole numbers, and decimals with up to six digits after a point.
+use Rattle.std.specs.Prelude.{◌≡◌, ℕ, ◌+◌, ◌-◌, ◌*◌, ◌^◌, ◌<◌, Bool, not, ◌&&◌, ◌==◌, nat_le, nat_lt, List, length}
+use Rattle.std.specs.Prelude.{take, drop, slice_index, fold, ℤ, pos, neg_ℤ, Option, Some, None}
+use Rattle.std.specs.Prelude.{option_map, if◌then◌else◌}
 use Rattle.std.specs.Char.{is_ascii_digit}
 use Rattle.std.specs.List.{list_all, position_or_len}
 
@@ -57,3 +58,11 @@ signed minus size = if minus then neg_ℤ (pos size) else pos size
 -- the millionths of a decimal, with a minus sign or without
 abbrev pub millionths_of : List ℕ → Option ℤ
 millionths_of text = option_map (signed (has_minus text)) (size_of (without_minus text))
+
+-- the millionths of a decimal without a sign
+abbrev pub unsigned_millionths_of : List ℕ → Option ℤ
+unsigned_millionths_of text = option_map pos (size_of text)
+
+-- each decimal without a sign is below 10^24 millionths
+abbrev pub SizesAreSmall : Type 0
+SizesAreSmall = (text : List ℕ) (size : ℕ) → size_of text ≡ Some size → size < 10 ^ 24

@@ -1,6 +1,6 @@
 use Rattle.std.proofs.Common.{◌≤◌, length, arith}
-use Rattle.claim_audit.proofs.Digits.{digits_grow}
-use Rattle.claim_audit.proofs.decimals.whole.Goals as goal
+use Rattle.decimal_in.proofs.Digits.{digits_grow}
+use Rattle.decimal_in.proofs.decimals.whole.Goals as goal
 
 pub returns-then-not-needless_zero-clause-small : goal.returns-then-not-needless_zero-clause-small
 returns-then-not-needless_zero-clause-small c =

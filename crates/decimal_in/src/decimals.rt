@@ -1,10 +1,10 @@
-// Numbers as texts of bytes.
-ghost use Rattle.std.specs.Prelude.{◌≡◌, ◌≤◌, ◌<◌, ◌^◌, length, unsigned_abs, IfSome, true};
+// Numbers in texts of bytes.
+ghost use Rattle.std.specs.Prelude.{◌≡◌, ◌≤◌, ◌<◌, ◌^◌, pos, ◌≤ℤ◌, length, unsigned_abs, IfSome, true};
 ghost use Rattle.std.specs.Char.{is_ascii_digit};
 ghost use Rattle.std.specs.List.{list_all};
-ghost use Rattle.claim_audit.specs.Decimals.{are_digits_up_to, fraction_of, has_needless_zero, millionths_of};
-ghost use Rattle.claim_audit.specs.Decimals.{point_of, signed, size_of, value_of, whole_of};
-ghost use Rattle.claim_audit.specs.Decimals.{has_minus, without_minus};
+ghost use Rattle.decimal_in.specs.Decimals.{are_digits_up_to, fraction_of, has_needless_zero, millionths_of};
+ghost use Rattle.decimal_in.specs.Decimals.{point_of, signed, size_of, value_of, whole_of};
+ghost use Rattle.decimal_in.specs.Decimals.{has_minus, without_minus, unsigned_millionths_of};
 
 // The most digits before a point, and after it.
 const MOST_WHOLE: usize = 18;
@@ -141,4 +141,15 @@ pub fn millionths(text: &[u8]) -> Option<i128>
 {
     let number = size(unsigned(text))?;
     Some(with_sign(minus(text), number))
+}
+
+/// The millionths of a decimal without a sign: 1 to 18 digits without a needless zero, and perhaps a point and 1 to 6
+/// digits.
+pub fn unsigned_millionths(text: &[u8]) -> Option<i128>
+    ensures value { result ≡ unsigned_millionths_of text.now }
+    ensures least { IfSome result (λ number. pos 0 ≤ℤ number) }
+    ensures small { IfSome result (λ number. unsigned_abs number < 10 ^ 24) }
+{
+    let number = size(text)?;
+    Some(with_sign(false, number))
 }
