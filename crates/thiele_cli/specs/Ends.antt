@@ -23,6 +23,7 @@ status_of (end.Second cause) = 11
 status_of (end.Join broken) = 12
 status_of (end.Derived found) = 13
 status_of (end.Compare broken) = 16
+status_of (end.Row broken) = 14
 
 -- what is handed back beside the report is there
 abbrev pub IsExtra : Extra → Type 0

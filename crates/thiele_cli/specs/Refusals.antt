@@ -2,6 +2,7 @@
 use Rattle.std.specs.Prelude.{ℕ, ◌^◌, ℤ, pos, ◌*ℤ◌, List, ◌++◌, codes, decimal}
 use Rattle.decimal_out.specs.Millionths.{millionths}
 use Rattle.frac_laws.specs.Rounding.{floor_of}
+use Rattle.rule_breaks.specs.declared.breaks.RowBreak.{RowBreak}
 use Rattle.rule_breaks.specs.declared.breaks.RuleBreak.{RuleBreak}
 use Rattle.thiele_cli.specs.declared.end.End.{End}
 use Rattle.thiele_cli.specs.declared.end.End.TheVariants as end
@@ -25,6 +26,7 @@ refused_end (refusal.Premium low) = end.NoPremium low
 refused_end (refusal.Join broken) = end.Join broken
 refused_end (refusal.Derived found) = end.Derived found
 refused_end (refusal.Compare broken) = end.Compare broken
+refused_end (refusal.Row broken) = end.Row broken
 
 -- rule K place P
 abbrev pub rule_words : RuleBreak → List ℕ
@@ -41,6 +43,10 @@ abbrev pub premium_line : ℤ → List ℕ
 premium_line low =
     codes "refused premium low " ++ millionths (floor_of (low *ℤ pos (10 ^ 6)) (pos (2 ^ 64))) ++ codes "\n"
 
+-- refused row R part K
+abbrev pub row_line : RowBreak → List ℕ
+row_line broken = codes "refused row " ++ decimal broken.row ++ codes " part " ++ decimal broken.part ++ codes "\n"
+
 -- the line of a refusal
 abbrev pub line_of : Refusal → List ℕ
 line_of refusal.Words = codes "refused words\n"
@@ -50,3 +56,4 @@ line_of (refusal.Premium low) = premium_line low
 line_of (refusal.Join broken) = codes "refused join part " ++ decimal broken.part ++ codes "\n"
 line_of (refusal.Derived found) = codes "refused derived " ++ rule_words found ++ codes "\n"
 line_of (refusal.Compare broken) = codes "refused compare part " ++ decimal broken.part ++ codes "\n"
+line_of (refusal.Row broken) = row_line broken

@@ -76,6 +76,7 @@ HasLine (refusal.Premium low) = unsigned_abs low ≤ 2 ^ 100
 HasLine (refusal.Derived found) = ⊤
 HasLine (refusal.Join broken) = ⊤
 HasLine (refusal.Compare broken) = ⊤
+HasLine (refusal.Row broken) = ⊤
 
 -- the answer has a text
 abbrev pub IsPrintable : Answer → Type 0

@@ -6,7 +6,7 @@ use crate::file_break::FileBreak;
 use basis_compare::{Changes, CompareBreak};
 use joint_life::JoinBreak;
 use reserve_report::Report;
-use rule_breaks::RuleBreak;
+use rule_breaks::{RowBreak, RuleBreak};
 
 /// How a run ended. `run` says when each end comes.
 #[derive(Clone, Copy, Debug, PartialEq, Eq)]
@@ -37,6 +37,8 @@ pub enum End {
     Derived(RuleBreak),
     /// The two bases first differ in this part.
     Compare(CompareBreak),
+    /// This row of the table of the command is the first that is wrong, and this its first wrong part.
+    Row(RowBreak),
 }
 
 impl End {
@@ -58,6 +60,7 @@ impl End {
             End::Join(_) => 12,
             End::Derived(_) => 13,
             End::Compare(_) => 16,
+            End::Row(_) => 14,
         }
     }
 }

@@ -1,6 +1,6 @@
 // Why there is no answer, and the line that says so.
 ghost use Rattle.std.specs.Prelude.{◌≡◌, ◌^◌, ◌≤◌, ◌++◌, unsigned_abs, codes, decimal, IfOk};
-ghost use Rattle.thiele_cli.specs.Refusals.{refused_end, rule_words, file_words, premium_line, line_of};
+ghost use Rattle.thiele_cli.specs.Refusals.{refused_end, rule_words, file_words, row_line, premium_line, line_of};
 ghost use Rattle.thiele_cli.specs.Replies.{HasLine};
 
 use crate::end::End;
@@ -9,7 +9,7 @@ use basis_compare::CompareBreak;
 use decimal_out::{push_millionths, push_whole};
 use fixed_num::scale_floor;
 use joint_life::JoinBreak;
-use rule_breaks::RuleBreak;
+use rule_breaks::{RowBreak, RuleBreak};
 use std::alloc::{AllocError, Global};
 
 /// Why there is no answer.
@@ -29,6 +29,8 @@ pub enum Refusal {
     Derived(RuleBreak),
     /// The two bases first differ in this part.
     Compare(CompareBreak),
+    /// This row of the table of the command is the first that is wrong, and this its first wrong part.
+    Row(RowBreak),
 }
 
 /// The line that refuses a file, with these words before the cause.
@@ -61,6 +63,18 @@ fn part_text(alloc: Global, head: &[u8], part: u8) -> Result<Vec<u8>, AllocError
     Ok(text)
 }
 
+/// The line that refuses a table by its first wrong row.
+fn row_text(alloc: Global, broken: RowBreak) -> Result<Vec<u8>, AllocError>
+    ensures { IfOk result (λ text. text.items ≡ row_line broken) }
+{
+    let mut text = b"refused row ".to_vec(alloc)?;
+    push_whole(&mut text, broken.row)?;
+    text.extend_from_slice(b" part ")?;
+    push_whole(&mut text, broken.part)?;
+    text.push(b'\n')?;
+    Ok(text)
+}
+
 /// The line that refuses a premium.
 fn premium_text(alloc: Global, low: i128) -> Result<Vec<u8>, AllocError>
     requires { unsigned_abs low ≤ 2 ^ 100 }
@@ -87,6 +101,7 @@ impl Refusal {
             Refusal::Join(broken) => End::Join(broken),
             Refusal::Derived(found) => End::Derived(found),
             Refusal::Compare(broken) => End::Compare(broken),
+            Refusal::Row(broken) => End::Row(broken),
         }
     }
 
@@ -103,6 +118,7 @@ impl Refusal {
             Refusal::Join(broken) => part_text(alloc, b"refused join part ", broken.part),
             Refusal::Derived(found) => derived_text(alloc, found),
             Refusal::Compare(broken) => part_text(alloc, b"refused compare part ", broken.part),
+            Refusal::Row(broken) => row_text(alloc, broken),
         }
     }
 }
