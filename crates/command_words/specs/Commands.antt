@@ -2,7 +2,7 @@
 use Rattle.command_words.specs.declared.command.Command.{Command}
 use Rattle.command_words.specs.declared.command.Command.TheVariants as command
 use Rattle.command_words.specs.Readings.{Request, Check, Value, Reserves, Occupancy, Moments, Premium, Generate}
-use Rattle.command_words.specs.Readings.{Upgrade, Join, Compare}
+use Rattle.command_words.specs.Readings.{Upgrade, Join, Compare, Portfolio}
 
 -- the request of a command
 abbrev pub request_of : Command → Request
@@ -16,3 +16,4 @@ request_of (command.Generate seed) = Generate seed
 request_of (command.Upgrade file) = Upgrade file.now
 request_of (command.Join first second) = Join first.now second.now
 request_of (command.Compare first second every) = Compare first.now second.now every
+request_of (command.Portfolio file) = Portfolio file.now

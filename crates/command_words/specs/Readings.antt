@@ -18,6 +18,7 @@ pub data Request : Type 0 where
   Upgrade : List ℕ → Request
   Join : List ℕ → List ℕ → Request
   Compare : List ℕ → List ℕ → ℕ → Request
+  Portfolio : List ℕ → Request
 
 -- the words are a command and the name of a file, which has at least one byte
 pub record AsksOfFile (words : List (List ℕ)) (command file : List ℕ) : Type 0 where
@@ -62,6 +63,7 @@ AreReadAs words (Generate seed) = AsksOfSeed words seed
 AreReadAs words (Upgrade file) = AsksOfFile words (codes "upgrade") file
 AreReadAs words (Join first second) = AsksOfFiles words (codes "join") first second
 AreReadAs words (Compare first second every) = AsksOfFilesAtDates words (codes "compare") first second every
+AreReadAs words (Portfolio file) = AsksOfFile words (codes "portfolio") file
 
 -- the words have a reading
 abbrev pub HaveReading : List (List ℕ) → Type 0

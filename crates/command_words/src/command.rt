@@ -32,6 +32,8 @@ pub enum Command<'a> {
     Join(&'a str, &'a str),
     /// The changes of the reserves from the basis of the first file to that of the second, at these dates.
     Compare(&'a str, &'a str, u32),
+    /// The totals by group of the reserves of the contracts that a CSV file holds.
+    Portfolio(&'a str),
 }
 
 // A command about one file, or one seed.
@@ -53,6 +55,7 @@ fn two_words<'a>(command: &str, word: &'a str) -> Option<Command<'a>>
         "value" => Some(Command::Value(word)),
         "premium" => Some(Command::Premium(word)),
         "upgrade" => Some(Command::Upgrade(word)),
+        "portfolio" => Some(Command::Portfolio(word)),
         _ => None,
     }
 }

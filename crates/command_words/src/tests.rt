@@ -21,6 +21,7 @@ fn words_and_their_readings(rt: HostRuntime) {
         ("upgrade a", Some(Command::Upgrade("a"))),
         ("join a b", Some(Command::Join("a", "b"))),
         ("compare a b 12", Some(Command::Compare("a", "b", 12))),
+        ("portfolio a.csv", Some(Command::Portfolio("a.csv"))),
         ("generate 0", Some(Command::Generate(0))),
         (
             "generate 18446744073709551615",
@@ -38,6 +39,8 @@ fn words_and_their_readings(rt: HostRuntime) {
         ("upgrade ", None),
         ("join a ", None),
         ("join a", None),
+        ("portfolio ", None),
+        ("portfolio a 12", None),
         ("compare a  1", None),
         ("compare a b 1201", None),
         ("compare a b", None),
