@@ -5,5 +5,4 @@ mod RowLines
 mod Shapes
 mod SmallRadii
 mod TablePlaces
-mod ToldRows
 mod TwoLines
