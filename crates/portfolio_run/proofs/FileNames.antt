@@ -47,15 +47,23 @@ seen_all P seen (name ∷ names) before all =
 -- no more groups than holdings
 pub groups_are_few : (holdings : List Holding) → length (groups_of holdings) ≤ length holdings
 groups_are_few holdings =
-    omega (arith, first_seen_are_few (map (λ holding. holding.group) holdings),
-    length-map holdings (λ holding. holding.group))
+    omega (
+      arith,
+      first_seen_are_few (map (λ holding. holding.group) holdings),
+      length-map holdings (λ holding. holding.group),
+    )
 
 -- no more files than bytes of the text
 pub files_are_few : (text : List ℕ) (holdings : List Holding) → AreHoldingsIn text holdings
     → length (files_of holdings) ≤ length text
 files_are_few text holdings are =
-    omega (arith, first_seen_are_few (map (λ holding. holding.file) holdings),
-    length-map holdings (λ holding. holding.file), records_are_few text are.0 are.1, are.3.all)
+    omega (
+      arith,
+      first_seen_are_few (map (λ holding. holding.file) holdings),
+      length-map holdings (λ holding. holding.file),
+      records_are_few text are.0 are.1,
+      are.3.all,
+    )
 
 -- each file's name is a text
 pub files_are_texts : (text : List ℕ) (holdings : List Holding) → AreHoldingsIn text holdings

@@ -11,5 +11,6 @@ pub mod NotedNames
 pub mod OneCover
 pub mod OneReading
 pub mod OwnPlaces
+pub mod PrintedTotals
 pub mod RecordCounts
 pub mod TotalLines

@@ -11,13 +11,9 @@ use Rattle.portfolio_run.specs.declared.valued.Missing.TheVariants as missing
 use Rattle.portfolio_run.specs.Holdings.{Holding}
 use Rattle.portfolio_run.specs.Names.{place_in}
 use Rattle.portfolio_run.specs.Readings.{files_of}
-use Rattle.portfolio_run.specs.Stored.{Portfolio}
+use Rattle.portfolio_run.specs.Stored.{portfolio_of}
 use Rattle.portfolio_run.specs.Totals.{HasItsReserve, IsFirstUncovered, valued_for}
 use Rattle.portfolio_run.specs.Values.{HasReserve, IsMissing, ValuedProduct, part_of_missing}
-
--- a portfolio of these holdings, as far as its files are valued
-abbrev pub portfolio_of : List Holding → List ValuedProduct → Portfolio
-portfolio_of holdings valued = record { holdings = holdings; valued = valued }
 
 -- what is valued at a place has the product at that place
 same_product : (v w : List ValuedProduct) (k : ℕ) (a b : ValuedProduct)

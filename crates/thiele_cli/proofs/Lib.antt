@@ -5,6 +5,8 @@ pub mod Growth
 pub mod JointFiles
 pub mod MonthGrids
 pub mod OneCase
+pub mod OnePortfolio
+pub mod Portfolios
 pub mod Premiums
 pub mod Reported
 pub mod Seeds

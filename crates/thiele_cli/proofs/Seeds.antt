@@ -5,8 +5,8 @@ use Rattle.command_words.proofs.Readings.{readings_are_one}
 use Rattle.thiele_cli.specs.declared.answer.Answer.{Answer}
 use Rattle.thiele_cli.specs.declared.end.End.{End}
 use Rattle.thiele_cli.specs.declared.end.End.TheVariants as end
-use Rattle.thiele_cli.specs.Questions.{asked_of, IsAskedOf}
-use Rattle.thiele_cli.specs.Cases.{Files, Case, Generated, IsAskedCase, IsCase}
+use Rattle.thiele_cli.specs.Questions.{asked_of}
+use Rattle.thiele_cli.specs.Cases.{Files, Case, Generated, IsAskedCase, IsAskedOf, IsCase}
 use Rattle.thiele_cli.specs.Replies.{end_of, Answers, IsGenerated}
 use Rattle.thiele_cli.specs.Ends.{IsAnswer}
 use Rattle.thiele_cli.specs.Outcome.{EndsAs}
@@ -30,7 +30,7 @@ seed_ends files words seed given reached read a (inl ends) =
 seed_ends files words seed given reached read a (inr fault) = inr (inr fault)
 
 -- nothing is asked of a file
-pub no_file_of_seed : (words : List (List ℕ)) (request : Request) (seed : ℕ) (file : List ℕ)
-    → AreReadAs words request → IsAskedOf (asked_of request) file → AreReadAs words (Generate seed) → ⊥
-no_file_of_seed words request seed file read asked of_seed =
-    subst (λ r. IsAskedOf (asked_of r) file) (readings_are_one words request (Generate seed) read of_seed) asked
+pub no_file_of_seed : (files : Files) (words : List (List ℕ)) (request : Request) (seed : ℕ) (file : List ℕ)
+    → AreReadAs words request → IsAskedOf files (asked_of request) file → AreReadAs words (Generate seed) → ⊥
+no_file_of_seed files words request seed file read asked of_seed =
+    subst (λ r. IsAskedOf files (asked_of r) file) (readings_are_one words request (Generate seed) read of_seed) asked

@@ -6,6 +6,8 @@ pub mod Fetches
 pub mod JointFiles
 pub mod MonthGrids
 pub mod Outcome
+pub mod PortfolioFiles
+pub mod Portfolios
 pub mod Premiums
 pub mod Questions
 pub mod Refusals

@@ -6,6 +6,7 @@ ghost use Rattle.thiele_cli.specs.Replies.{end_of, report_of, extra_of, text_of,
 use crate::end::{End, Extra};
 use crate::refusal::Refusal;
 use basis_compare::{Changes, changes_bytes};
+use portfolio_run::{Totals, totals_bytes};
 use rate_bounds::Admitted;
 use report_columns::Column;
 use reserve_report::{Report, check_bytes, report_bytes};
@@ -24,6 +25,8 @@ pub enum Answer {
     Refused(Refusal),
     /// The changes from the basis of one product to that of another.
     Changes(Admitted, Admitted, Changes),
+    /// The totals of a portfolio by group.
+    Portfolio(Totals),
 }
 
 impl Answer {
@@ -37,10 +40,12 @@ impl Answer {
             Answer::File(_) => End::Done,
             Answer::Refused(why) => why.end(),
             Answer::Changes(..) => End::Done,
+            Answer::Portfolio(_) => End::Done,
         }
     }
 
-    /// The text that is to be written. Columns are told of the rows of a report, and their texts stand behind it.
+    /// The text that is to be written. Columns are told of the rows of a report, or of the groups of a portfolio, and
+    /// their texts stand behind it.
     pub fn text(
         &self,
         alloc: Global,
@@ -59,6 +64,7 @@ impl Answer {
             Answer::Changes(old, new, changes) => {
                 changes_bytes(alloc, old.product(), new.product(), changes)
             }
+            Answer::Portfolio(totals) => totals_bytes(alloc, totals, columns),
         }
     }
 
@@ -73,6 +79,7 @@ impl Answer {
             Answer::File(_) => (None, Extra::Nothing),
             Answer::Refused(_) => (None, Extra::Nothing),
             Answer::Changes(_, _, changes) => (None, Extra::Compare(changes)),
+            Answer::Portfolio(totals) => (None, Extra::Portfolio(totals)),
         }
     }
 }

@@ -1,7 +1,8 @@
 // What a command is answered by, before the sink is reached.
 ghost use Rattle.std.specs.Prelude.{◌≡◌, ℕ, ◌++◌, List, [], ◌∷◌, IfOk, OnOk, IsErrOf};
 ghost use Rattle.command_words.specs.Commands.{request_of};
-ghost use Rattle.thiele_cli.specs.Questions.{OfFile, OfFiles, asked_of, HasDates, HasDatesOfTwo, IsAskedOf, IsRead};
+ghost use Rattle.thiele_cli.specs.Questions.{OfFile, OfFiles, asked_of, HasDates, HasDatesOfTwo, IsRead};
+ghost use Rattle.thiele_cli.specs.Cases.{IsAskedOf};
 ghost use Rattle.thiele_cli.specs.Replies.{IsGenerated, IsPrintable};
 ghost use Rattle.thiele_cli.specs.AskedAnswers.{AnswersAsked};
 
@@ -9,6 +10,7 @@ use crate::answer::Answer;
 use crate::fault::Fault;
 use crate::fetching::file_verdict;
 use crate::pair_question::{PairQuestion, pair_answer};
+use crate::portfolio::portfolio_answer;
 use crate::question::{Question, product_answer};
 use crate::refusal::Refusal;
 use crate::verdict::Verdict;
@@ -29,7 +31,7 @@ fn named_answer<H: Shelf>(
     ensures printable { IfOk result IsPrintable }
     ensures fetched { OnOk result (H.failed shelf.new ≡ H.failed shelf.old) }
     ensures not_fetched { IsErrOf result Fault.Fetch → (file : List ℕ)
-        × IsAskedOf (OfFile question name.now) file × (H.failed shelf.new ≡ H.failed shelf.old ++ file ∷ []) }
+        × IsAskedOf (H.files shelf.old) (OfFile question name.now) file × (H.failed shelf.new ≡ H.failed shelf.old ++ file ∷ []) }
     ensures memory { IsErrOf result Fault.Memory → H.failed shelf.new ≡ H.failed shelf.old }
     ensures files { H.files shelf.new ≡ H.files shelf.old }
 {
@@ -52,7 +54,7 @@ fn two_named_answer<H: Shelf>(
     ensures printable { IfOk result IsPrintable }
     ensures fetched { OnOk result (H.failed shelf.new ≡ H.failed shelf.old) }
     ensures not_fetched { IsErrOf result Fault.Fetch → (file : List ℕ)
-        × IsAskedOf (OfFiles question first.now second.now) file
+        × IsAskedOf (H.files shelf.old) (OfFiles question first.now second.now) file
         × (H.failed shelf.new ≡ H.failed shelf.old ++ file ∷ []) }
     ensures memory { IsErrOf result Fault.Memory → H.failed shelf.new ≡ H.failed shelf.old }
     ensures files { H.files shelf.new ≡ H.files shelf.old }
@@ -86,7 +88,7 @@ pub fn command_answer<H: Shelf>(
     ensures printable { IfOk result IsPrintable }
     ensures fetched { OnOk result (H.failed shelf.new ≡ H.failed shelf.old) }
     ensures not_fetched { IsErrOf result Fault.Fetch →
-        (file : List ℕ) × IsAskedOf (asked_of (request_of command.entry)) file
+        (file : List ℕ) × IsAskedOf (H.files shelf.old) (asked_of (request_of command.entry)) file
         × (H.failed shelf.new ≡ H.failed shelf.old ++ file ∷ []) }
     ensures memory { IsErrOf result Fault.Memory → H.failed shelf.new ≡ H.failed shelf.old }
     ensures files { H.files shelf.new ≡ H.files shelf.old }
@@ -112,5 +114,6 @@ pub fn command_answer<H: Shelf>(
         Command::Compare(first, second, every) => {
             two_named_answer(alloc, PairQuestion::Changes(every), first, second, shelf)
         }
+        Command::Portfolio(csv) => portfolio_answer(alloc, csv, shelf),
     }
 }

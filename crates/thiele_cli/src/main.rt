@@ -11,6 +11,8 @@ mod file_break;
 mod joining;
 mod pair_question;
 mod pieces;
+mod policy_break;
+mod portfolio;
 mod question;
 mod refusal;
 mod run;

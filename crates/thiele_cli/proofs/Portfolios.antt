@@ -1,0 +1,153 @@
+-- From the product files of a portfolio to its answer.
+use Rattle.std.proofs.Common.{◌≡◌, ℕ, zero, suc, ◌+◌, ◌<◌, ◌≤◌, List, [], ◌∷◌, ◌++◌, length, map, take, inl, inr}
+use Rattle.std.proofs.Common.{refl, sym, ap, subst, ◌∙◌, arith}
+use Rattle.std.specs.Prelude.{All}
+use Rattle.std.proofs.lemmas.List.{length_push, map_push, take_all, take_more}
+use Rattle.std.proofs.lemmas.List.Elements.{All-nil, All-push}
+use Rattle.model_specs.specs.Product.{Product}
+use Rattle.rule_breaks.specs.declared.breaks.RowBreak.{RowBreak}
+use Rattle.portfolio_run.specs.declared.reading.PolicyError.TheVariants as error
+use Rattle.portfolio_run.specs.declared.totals.Totals.{Totals}
+use Rattle.portfolio_run.specs.Readings.{AreHoldingsIn, TellsWrongIn, files_of}
+use Rattle.portfolio_run.specs.Stored.{AddsValued, Portfolio, name_at}
+use Rattle.portfolio_run.specs.Totals.{AreTotals, TellsUncovered}
+use Rattle.portfolio_run.specs.Values.{IsValued, ValuedProduct}
+use Rattle.thiele_cli.specs.declared.answer.Answer.TheVariants as answer
+use Rattle.thiele_cli.specs.declared.file_break.FileBreak.{FileBreak}
+use Rattle.thiele_cli.specs.declared.policy_break.PolicyBreak.{PolicyBreak}
+use Rattle.thiele_cli.specs.declared.refusal.Refusal.TheVariants as refusal
+use Rattle.thiele_cli.specs.Cases.{Files, HasFault, HasProduct, WrongRow, PolicyRefused, SummedUp}
+use Rattle.thiele_cli.specs.PortfolioFiles.{AnswersText, AreAllValued, AreValued, next_name}
+use Rattle.thiele_cli.specs.Portfolios.{AreProductsOf, ComeTo, IsFirstRefused}
+
+-- ---- names and products
+
+-- one name more
+come_to_more : (HasIt : List ℕ → Product → Type 0) (names : List (List ℕ)) (products : List Product) (name : List ℕ)
+    (product : Product) → ComeTo HasIt names products → HasIt name product
+    → ComeTo HasIt (names ++ name ∷ []) (products ++ product ∷ [])
+come_to_more HasIt [] [] name product so_far has = (has, tt)
+come_to_more HasIt [] (p ∷ ps) name product so_far has = absurd so_far
+come_to_more HasIt (n ∷ ns) [] name product so_far has = absurd so_far
+come_to_more HasIt (n ∷ ns) (p ∷ ps) name product so_far has =
+    (so_far.0, come_to_more HasIt ns ps name product so_far.1 has)
+
+-- the name behind names that have products is the first that is refused
+pub refused_behind : (HasIt : List ℕ → Product → Type 0) (HasFaultOf : List ℕ → FileBreak → Type 0)
+    (names : List (List ℕ)) (place : ℕ) (products : List Product) (cause : FileBreak) → place < length names
+    → ComeTo HasIt (take place names) products → HasFaultOf (name_at names place) cause
+    → IsFirstRefused HasIt HasFaultOf names place cause
+refused_behind HasIt HasFaultOf [] place products cause inside so_far fault = absurd (omega (arith, inside))
+refused_behind HasIt HasFaultOf (n ∷ ns) zero products cause inside so_far fault = fault
+refused_behind HasIt HasFaultOf (n ∷ ns) (suc place) [] cause inside so_far fault = absurd so_far
+refused_behind HasIt HasFaultOf (n ∷ ns) (suc place) (p ∷ ps) cause inside so_far fault =
+    ((p, so_far.0), refused_behind HasIt HasFaultOf ns place ps cause (omega (arith, inside)) so_far.1 fault)
+
+-- ---- files
+
+-- no file is valued yet
+pub none_valued : (files : Files) (portfolio : Portfolio) → portfolio.valued ≡ [] → AreValued files portfolio
+none_valued files portfolio none = record {
+  products = [];
+  come_to = subst (λ valued. ComeTo (HasProduct files) (take (length valued) (files_of portfolio.holdings)) [])
+      (sym none) tt;
+  products_are = ap (map (λ v. v.product)) none;
+  tables = subst (All IsValued) (sym none) (All-nil IsValued);
+}
+
+-- one file more
+pub valued_more : (files : Files) (old new : Portfolio) (product : Product)
+    → length old.valued < length (files_of old.holdings) → AreValued files old
+    → HasProduct files (next_name old) product → AddsValued product old new → AreValued files new
+valued_more files old new product inside are has adds =
+    let names = files_of old.holdings in
+    let count : length new.valued ≡ length old.valued + 1 =
+    ap length adds.valued ∙ length_push old.valued adds.added in
+    let more : take (length old.valued + 1) names ≡ take (length old.valued) names ++ next_name old ∷ [] =
+    take_more names (length old.valued) [] inside in
+    let first : take (length new.valued) (files_of new.holdings) ≡ take (length old.valued) names ++ next_name old ∷ [] =
+    ap (λ n. take n (files_of new.holdings)) count
+    ∙ ap (λ h. take (length old.valued + 1) (files_of h)) adds.holdings ∙ more in
+    record {
+      products = are.products ++ product ∷ [];
+      come_to = subst (λ all. ComeTo (HasProduct files) all (are.products ++ product ∷ [])) (sym first)
+          (come_to_more (HasProduct files) (take (length old.valued) names) are.products (next_name old) product
+          are.come_to has);
+      products_are = ap (map (λ v. v.product)) adds.valued ∙ map_push (λ v. v.product) old.valued adds.added
+          ∙ ap (λ all. all ++ adds.added.product ∷ []) are.products_are
+          ∙ ap (λ p. are.products ++ p ∷ []) adds.product_is;
+      tables = subst (All IsValued) (sym adds.valued)
+          (All-push IsValued old.valued adds.added are.tables adds.is_valued);
+    }
+
+-- ---- the text
+
+-- a row is wrong by itself
+pub wrong_row : (files : Files) (text : List ℕ) (broken : RowBreak) → TellsWrongIn text (error.Row broken)
+    → AnswersText files text (answer.Refused (refusal.Row broken))
+wrong_row files text broken wrong = (WrongRow broken, inl (broken, wrong, refl), refl)
+
+-- a file is refused
+pub file_refused : (files : Files) (text : List ℕ) (portfolio : Portfolio) (broken : PolicyBreak)
+    → AreHoldingsIn text portfolio.holdings
+    → IsFirstRefused (HasProduct files) (HasFault files) (files_of portfolio.holdings) broken.file broken.cause
+    → AnswersText files text (answer.Refused (refusal.Policy broken))
+file_refused files text portfolio broken are first =
+    (PolicyRefused broken, inr (portfolio.holdings, are, inl (broken, first, refl)), refl)
+
+-- the products of all files
+all_products : (files : Files) (old new : Portfolio) → (all : AreAllValued files old new)
+    → ComeTo (HasProduct files) (files_of new.holdings) all.valued.products
+all_products files old new all =
+    subst (λ names. ComeTo (HasProduct files) names all.valued.products)
+    (take_all (length new.valued) (files_of new.holdings) (omega (arith, all.all))) all.valued.come_to
+
+-- the totals
+pub summed_up : (files : Files) (text : List ℕ) (old new : Portfolio) (totals : Totals)
+    → AreHoldingsIn text old.holdings → AreAllValued files old new → AreTotals new totals
+    → AnswersText files text (answer.Portfolio totals)
+summed_up files text old new totals are all right = (
+  SummedUp new.holdings all.valued.products,
+  inr (
+    new.holdings,
+    subst (AreHoldingsIn text) (sym all.holdings) are,
+    inr (
+      all.valued.products,
+      all_products files old new all,
+      inr (
+        record { valued = new.valued; products_are = all.valued.products_are; covered = right.covered },
+        refl,
+      ),
+    ),
+  ),
+  record {
+    totals = totals;
+    answers = refl;
+    valued = new.valued;
+    products_are = all.valued.products_are;
+    tables = all.valued.tables;
+    right = right;
+  },
+)
+
+-- a row whose product has not its date or its state
+pub uncovered_row : (files : Files) (text : List ℕ) (old new : Portfolio) (broken : RowBreak)
+    → AreHoldingsIn text old.holdings → AreAllValued files old new → TellsUncovered new (error.Row broken)
+    → AnswersText files text (answer.Refused (refusal.Row broken))
+uncovered_row files text old new broken are all tells = (
+  WrongRow broken,
+  inr (
+    new.holdings,
+    subst (AreHoldingsIn text) (sym all.holdings) are,
+    inr (
+      all.valued.products,
+      all_products files old new all,
+      inl (
+        broken,
+        record { valued = new.valued; products_are = all.valued.products_are; tells = tells },
+        refl,
+      ),
+    ),
+  ),
+  refl,
+)
