@@ -2,6 +2,7 @@ mod columns;
 mod comparisons;
 mod damages;
 mod ends;
+mod portfolios;
 mod reports;
 mod seeds;
 
