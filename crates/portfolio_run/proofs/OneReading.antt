@@ -2,8 +2,7 @@
 use Rattle.std.proofs.Common.{◌≡◌, ◌≢◌, ℕ, zero, suc, ◌+◌, ◌-◌, ◌<◌, ◌≤◌, List, [], ◌∷◌, length, take, get_or, inl, inr}
 use Rattle.std.proofs.Common.{refl, sym, ap, subst, ◌∙◌, arith, min}
 use Rattle.std.specs.Prelude.{Option, Some, None, IsSome}
-use Rattle.std.proofs.lemmas.List.{ext_get_or, length-take, take_all}
-use Rattle.std.proofs.lemmas.List.Elements.{get_or-take}
+use Rattle.std.proofs.lemmas.List.{ext_get_or, get_or-take, length-take, take_all}
 use Rattle.csv.specs.declared.parser.Config.{Config}
 use Rattle.csv.specs.declared.parser.State.{State}
 use Rattle.csv.specs.Machine.{next_record}
@@ -50,7 +49,7 @@ one_holding f g fields a b x y =
 
 -- a missing number is none
 none_there : (o : Option ℕ) → IsSome o → o ≡ None → ⊥
-none_there None there none = there
+none_there None there none = let no = there in cc
 none_there (Some n) there none = cc
 
 -- fields have one first fault

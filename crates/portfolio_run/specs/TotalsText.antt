@@ -32,30 +32,34 @@ notes_from group (total ∷ totals) = note_of group total ∷ notes_from (group 
 abbrev pub notes_of : Totals → List Note
 notes_of totals = notes_from 0 totals.groups.items
 
--- GROUP LO HI, and a space
-abbrev pub group_ends : Total → List ℕ
-group_ends total =
-    total.name.items ++ codes " " ++ millionths total.lo ++ codes " " ++ millionths total.hi ++ codes " "
+-- LO HI, and a space
+abbrev pub total_ends : Total → List ℕ
+total_ends total = millionths total.lo ++ codes " " ++ millionths total.hi ++ codes " "
 
 -- GROUP LO HI TOL
 abbrev pub group_line : Total → List ℕ
-group_line total = group_ends total ++ millionths_of_size total.tol ++ codes "\n"
+group_line total =
+    total.name.items ++ codes " " ++ total_ends total ++ millionths_of_size total.tol ++ codes "\n"
 
 -- a line for each group, in their order
 abbrev pub group_lines : List Total → List ℕ
 group_lines [] = []
 group_lines (total ∷ totals) = group_line total ++ group_lines totals
 
+-- some words, and a number behind them
+abbrev pub counted : List ℕ → ℕ → List ℕ
+counted words number = words ++ decimal number
+
 -- portfolio, and degree N policies R groups Q
 abbrev pub head_lines : Totals → List ℕ
 head_lines totals =
-    codes "portfolio\ndegree " ++ decimal totals.degree ++ codes " policies " ++ decimal totals.policies
-    ++ codes " groups " ++ decimal (length totals.groups.items) ++ codes "\n"
+    counted (codes "portfolio\ndegree ") totals.degree ++ counted (codes " policies ") totals.policies
+    ++ counted (codes " groups ") (length totals.groups.items) ++ codes "\n"
 
 -- the text up to the columns: the first two lines, the groups, and their number
 abbrev pub groups_text : Totals → List ℕ
 groups_text totals =
-    head_lines totals ++ group_lines totals.groups.items ++ codes "end " ++ decimal (length totals.groups.items)
+    head_lines totals ++ group_lines totals.groups.items ++ counted (codes "end ") (length totals.groups.items)
     ++ codes "\n"
 
 -- the whole text, of columns as they were handed in: each is told of the groups, and they stand below them

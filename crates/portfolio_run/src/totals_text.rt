@@ -1,8 +1,8 @@
 // The text of the totals of a portfolio.
 ghost use Rattle.std.specs.Prelude.{◌≡◌, ◌++◌, ◌<◌, ◌^◌, All, length, OnOk, OnErr, IfOk};
 ghost use Rattle.report_columns.specs.Columns.{all_told, columns_of, AreToldFirst};
-ghost use Rattle.portfolio_run.specs.TotalsText.{group_ends, group_line, group_lines, groups_text, head_lines};
-ghost use Rattle.portfolio_run.specs.TotalsText.{notes_from, notes_of, totals_text, HaveText};
+ghost use Rattle.portfolio_run.specs.TotalsText.{counted, group_line, group_lines, groups_text, head_lines};
+ghost use Rattle.portfolio_run.specs.TotalsText.{notes_from, notes_of, total_ends, totals_text, HaveText};
 
 use crate::totals::{Total, Totals};
 use decimal_out::{push_millionths, push_size, push_whole};
@@ -28,12 +28,10 @@ fn notes_of(alloc: Global, groups: &[Total]) -> Result<Vec<Note>, AllocError>
     Ok(notes)
 }
 
-// Appends the name and the ends of a group.
+// Appends the ends of a group.
 fn push_ends(out: &mut Vec<u8>, total: &Total) -> Result<(), AllocError>
-    ensures { OnOk result (out.new.items ≡ out.old.items ++ group_ends total.now) }
+    ensures { OnOk result (out.new.items ≡ out.old.items ++ total_ends total.now) }
 {
-    out.extend_from_slice(&total.name)?;
-    out.push(b' ')?;
     push_millionths(out, total.lo)?;
     out.push(b' ')?;
     push_millionths(out, total.hi)?;
@@ -45,6 +43,8 @@ fn push_ends(out: &mut Vec<u8>, total: &Total) -> Result<(), AllocError>
 fn push_group(out: &mut Vec<u8>, total: &Total) -> Result<(), AllocError>
     ensures { OnOk result (out.new.items ≡ out.old.items ++ group_line total.now) }
 {
+    out.extend_from_slice(&total.name)?;
+    out.push(b' ')?;
     push_ends(out, total)?;
     push_size(out, total.tol)?;
     out.push(b'\n')?;
@@ -61,16 +61,22 @@ fn push_groups(out: &mut Vec<u8>, groups: &[Total]) -> Result<(), AllocError>
     Ok(())
 }
 
+// Appends some words, and a number behind them.
+fn push_count(out: &mut Vec<u8>, words: &[u8], number: u64) -> Result<(), AllocError>
+    ensures { OnOk result (out.new.items ≡ out.old.items ++ counted words.now number) }
+{
+    out.extend_from_slice(words)?;
+    push_whole(out, number)?;
+    Ok(())
+}
+
 // Appends the first two lines.
 fn push_head(out: &mut Vec<u8>, totals: &Totals) -> Result<(), AllocError>
     ensures { OnOk result (out.new.items ≡ out.old.items ++ head_lines totals.now) }
 {
-    out.extend_from_slice(b"portfolio\ndegree ")?;
-    push_whole(out, totals.degree)?;
-    out.extend_from_slice(b" policies ")?;
-    push_whole(out, totals.policies)?;
-    out.extend_from_slice(b" groups ")?;
-    push_whole(out, totals.groups.len())?;
+    push_count(out, b"portfolio\ndegree ", u64::from(totals.degree))?;
+    push_count(out, b" policies ", totals.policies)?;
+    push_count(out, b" groups ", totals.groups.len() as u64)?;
     out.push(b'\n')?;
     Ok(())
 }
@@ -82,8 +88,7 @@ fn groups_bytes(alloc: Global, totals: &Totals) -> Result<Vec<u8>, AllocError>
     let mut bytes = Vec::new(alloc);
     push_head(&mut bytes, totals)?;
     push_groups(&mut bytes, &totals.groups)?;
-    bytes.extend_from_slice(b"end ")?;
-    push_whole(&mut bytes, totals.groups.len())?;
+    push_count(&mut bytes, b"end ", totals.groups.len() as u64)?;
     bytes.push(b'\n')?;
     Ok(bytes)
 }
