@@ -1,7 +1,10 @@
 -- From the product files of a portfolio to its answer.
-use Rattle.std.proofs.Common.{◌≡◌, ℕ, zero, suc, ◌+◌, ◌<◌, ◌≤◌, List, [], ◌∷◌, ◌++◌, length, map, take, inl, inr}
+use Rattle.std.proofs.Common.{◌≡◌, ℕ, zero, suc, ◌+◌, ◌<◌, ◌≤◌, List, [], ◌∷◌, ◌++◌, length, map, take, get_or, inl, inr}
 use Rattle.std.proofs.Common.{refl, sym, ap, subst, ◌∙◌, arith}
-use Rattle.std.specs.Prelude.{All}
+use Rattle.std.specs.Prelude.{All, Vec}
+use Rattle.std.specs.declared.alloc.Global.{Global}
+use Rattle.state_graph.specs.StateGraphs.{texts_of}
+use Rattle.portfolio_run.proofs.NotedNames.{text_at}
 use Rattle.std.proofs.lemmas.List.{length_push, map_push, take_all, take_more}
 use Rattle.std.proofs.lemmas.List.Elements.{All-nil, All-push}
 use Rattle.model_specs.specs.Product.{Product}
@@ -44,6 +47,17 @@ refused_behind HasIt HasFaultOf (n ∷ ns) (suc place) (p ∷ ps) cause inside s
     ((p, so_far.0), refused_behind HasIt HasFaultOf ns place ps cause (omega (arith, inside)) so_far.1 fault)
 
 -- ---- files
+
+-- the name at the place of the next file
+pub next_name_is : (portfolio : Portfolio) (names : List (Vec ℕ Global)) (place : ℕ) (name : Vec ℕ Global)
+    → texts_of names ≡ files_of portfolio.holdings → place ≡ length portfolio.valued
+    → length portfolio.valued < length (files_of portfolio.holdings)
+    → length names ≡ length (files_of portfolio.holdings) → name ≡ get_or names place name
+    → next_name portfolio ≡ name.items
+next_name_is portfolio names place name texts place_is left count here =
+    ap (λ all. name_at all (length portfolio.valued)) (sym texts)
+    ∙ ap (λ k. name_at (texts_of names) k) (sym place_is)
+    ∙ text_at (λ n. n.items) names place name (omega (arith, place_is, left, count)) here
 
 -- no file is valued yet
 pub none_valued : (files : Files) (portfolio : Portfolio) → portfolio.valued ≡ [] → AreValued files portfolio

@@ -14,7 +14,7 @@ use Rattle.reserve_report.specs.Reports.{HasText, IsReport}
 use Rattle.premium_solver.specs.Premiums.{IsTooSmall, IsLargePattern}
 use Rattle.reserve_report.specs.ReportText.{report_text}
 use Rattle.reserve_report.specs.CheckText.{check_text}
-use Rattle.portfolio_run.specs.TotalsText as totals
+use Rattle.portfolio_run.specs.TotalsText as totals_texts
 use Rattle.portfolio_run.specs.TotalsText.{totals_text}
 use Rattle.workload_gen.specs.Laws.{generated_product}
 use Rattle.workload_gen.specs.Tree.{generated}
@@ -94,7 +94,7 @@ IsPrintable (answer.Report product report) = HasText product report
 IsPrintable (answer.File text) = ⊤
 IsPrintable (answer.Refused why) = HasLine why
 IsPrintable (answer.Changes old new changes) = HaveText old changes
-IsPrintable (answer.Portfolio totals) = totals.HaveText totals
+IsPrintable (answer.Portfolio totals) = totals_texts.HaveText totals
 
 -- the answer is a report about the product, and it is right in this sense
 abbrev pub Reports : Product → (Report → Type 0) → Answer → Type 0
