@@ -1,7 +1,7 @@
 -- From the product files of a portfolio to its answer.
 use Rattle.std.proofs.Common.{◌≡◌, ℕ, zero, suc, ◌+◌, ◌<◌, ◌≤◌, List, [], ◌∷◌, ◌++◌, length, map, take, get_or, inl, inr}
 use Rattle.std.proofs.Common.{refl, sym, ap, subst, ◌∙◌, arith}
-use Rattle.std.specs.Prelude.{All, Vec}
+use Rattle.std.specs.Prelude.{All, Option, Some, None, Vec}
 use Rattle.std.specs.declared.alloc.Global.{Global}
 use Rattle.state_graph.specs.StateGraphs.{texts_of}
 use Rattle.portfolio_run.proofs.NotedNames.{text_at}
@@ -19,8 +19,13 @@ use Rattle.thiele_cli.specs.declared.answer.Answer.TheVariants as answer
 use Rattle.thiele_cli.specs.declared.file_break.FileBreak.{FileBreak}
 use Rattle.thiele_cli.specs.declared.policy_break.PolicyBreak.{PolicyBreak}
 use Rattle.thiele_cli.specs.declared.refusal.Refusal.TheVariants as refusal
-use Rattle.thiele_cli.specs.Cases.{Files, HasFault, HasProduct, WrongRow, PolicyRefused, SummedUp}
-use Rattle.thiele_cli.specs.PortfolioFiles.{AnswersText, AreAllValued, AreValued, next_name}
+use Rattle.thiele_cli.specs.declared.answer.Answer.{Answer}
+use Rattle.thiele_cli.specs.declared.file_break.FileBreak.TheVariants as file
+use Rattle.thiele_cli.specs.AskedAnswers.{AnswersAsked}
+use Rattle.thiele_cli.specs.Cases.{Files, AreBytesOf, HasFault, HasProduct}
+use Rattle.thiele_cli.specs.Cases.{FirstRefused, WrongRow, PolicyRefused, SummedUp}
+use Rattle.thiele_cli.specs.Questions.{OfPortfolio}
+use Rattle.thiele_cli.specs.PortfolioFiles.{AnswersText, AreAllValued, AreValued, IsNext, next_name}
 use Rattle.thiele_cli.specs.Portfolios.{AreProductsOf, ComeTo, IsFirstRefused}
 
 -- ---- names and products
@@ -94,6 +99,36 @@ valued_more files old new product inside are has adds =
           (All-push IsValued old.valued adds.added are.tables adds.is_valued);
     }
 
+-- the next file is the first that is refused
+pub next_is_refused : (given files : Files) (start old new : Portfolio) (next : Option FileBreak) (cause : FileBreak)
+    (place : ℕ) → given ≡ files → old.holdings ≡ start.holdings → length old.valued ≡ place
+    → place < length (files_of start.holdings) → AreValued files old → next ≡ Some cause → IsNext given old new next
+    → IsFirstRefused (HasProduct files) (HasFault files) (files_of start.holdings) place cause
+next_is_refused given files start old new next cause place same holdings count inside are is says =
+    let fault : HasFault files (next_name old) cause =
+    subst (λ f. HasFault f (next_name old) cause) same (subst (IsNext given old new) is says) in
+    let within : place < length (files_of old.holdings) =
+    subst (λ h. place < length (files_of h)) (sym holdings) inside in
+    subst (λ h. IsFirstRefused (HasProduct files) (HasFault files) (files_of h) place cause) holdings
+    (subst (λ k. IsFirstRefused (HasProduct files) (HasFault files) (files_of old.holdings) k cause) count
+    (refused_behind (HasProduct files) (HasFault files) (files_of old.holdings) (length old.valued) are.products cause
+    (omega (arith, within, count)) are.come_to fault))
+
+-- or it is valued
+pub next_is_valued : (given files : Files) (start old new : Portfolio) (next : Option FileBreak) (place : ℕ)
+    → given ≡ files → old.holdings ≡ start.holdings → length old.valued ≡ place
+    → place < length (files_of start.holdings) → AreValued files old → next ≡ None → IsNext given old new next
+    → (new.holdings ≡ start.holdings) × (length new.valued ≡ place + 1) × AreValued files new
+next_is_valued given files start old new next place same holdings count inside are is says =
+    let at : IsNext given old new None = subst (IsNext given old new) is says in
+    let has : HasProduct files (next_name old) at.0 = subst (λ f. HasProduct f (next_name old) at.0) same at.1 in
+    let within : place < length (files_of old.holdings) =
+    subst (λ h. place < length (files_of h)) (sym holdings) inside in (
+      at.2.holdings ∙ holdings,
+      ap length at.2.valued ∙ length_push old.valued at.2.added ∙ ap (λ n. n + 1) count,
+      valued_more files old new at.0 (omega (arith, within, count)) are has at.2,
+    )
+
 -- ---- the text
 
 -- a row is wrong by itself
@@ -165,3 +200,19 @@ uncovered_row files text old new broken are all tells = (
   ),
   refl,
 )
+
+-- ---- what is asked
+
+-- the answer to the text of the file
+pub text_is_asked : (given files : Files) (csv text shown : List ℕ) (answer : Answer) → given ≡ files → shown ≡ text
+    → AreBytesOf files csv text → AnswersText given shown answer → AnswersAsked files (OfPortfolio csv) answer
+text_is_asked given files csv text shown answer same is bytes says =
+    let at : AnswersText files text answer =
+    subst (λ t. AnswersText files t answer) is (subst (λ f. AnswersText f shown answer) same says) in
+    record { case = at.0; holds = inr (text, bytes, at.1); says = at.2 }
+
+-- a file that is too long
+pub too_long : (files : Files) (csv : List ℕ) (seen : ℕ) → HasFault files csv (file.TooLong seen)
+    → AnswersAsked files (OfPortfolio csv) (answer.Refused (refusal.First (file.TooLong seen)))
+too_long files csv seen fault =
+    record { case = FirstRefused (file.TooLong seen); holds = inl (seen, fault, refl); says = refl }
