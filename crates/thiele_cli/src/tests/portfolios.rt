@@ -14,7 +14,11 @@ fn shelf_with(alloc: Global, holdings: &str) -> Result<MemoryShelf, AllocError> 
     csv.extend_from_slice(holdings.as_bytes())?;
     let mut files = Vec::new(alloc);
     files.push((b"csv".to_vec(alloc)?, csv))?;
-    for (name, bytes) in [("flat", FLAT), ("cut", &FLAT[..22]), ("empty", b"".as_slice())] {
+    for (name, bytes) in [
+        ("flat", FLAT),
+        ("cut", &FLAT[..22]),
+        ("empty", b"".as_slice()),
+    ] {
         files.push((name.as_bytes().to_vec(alloc)?, bytes.to_vec(alloc)?))?;
     }
     Ok(MemoryShelf::new(alloc, files, Vec::new(alloc)))
@@ -63,7 +67,12 @@ fn each_portfolio_writes_its_text(rt: HostRuntime) -> Result<(), Fail> {
             15,
             "refused policy file 0 toml\n",
         ),
-        ("flat,x,13,off,1\nmissing,x,0,on,1\n", End::FetchFault, 3, ""),
+        (
+            "flat,x,13,off,1\nmissing,x,0,on,1\n",
+            End::FetchFault,
+            3,
+            "",
+        ),
         (
             "flat,x,12,on,1\nflat,x,13,off,1\nflat,x,0,off,1\n",
             End::Row(RowBreak { row: 2, part: 6 }),

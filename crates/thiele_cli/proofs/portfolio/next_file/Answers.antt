@@ -24,8 +24,8 @@ returns-in_ok-value_file-in-Admitted-clause-next g c =
     ∙ sym c.deref.ensures.value in (
       c.in-Admitted.product,
       subst (λ n. HasProduct files n c.in-Admitted.product) (c.in-Ok.ensures.cases.0 ∙ sym name)
-      (product_of files files c.in-Ok.name.now c.in_ok-product.field-0 c.in-Admitted.product refl c.in-Admitted.is
-      c.in_ok-product.ensures.verdict),
+          (product_of files files c.in-Ok.name.now c.in_ok-product.field-0 c.in-Admitted.product refl c.in-Admitted.is
+          c.in_ok-product.ensures.verdict),
       c.in_ok-value_file-in-Admitted.ensures,
     )
 
