@@ -140,6 +140,35 @@ try 'more than twelve pairs of states' 12 $'refused join part 3\n' \
   join "$top/tests/values/ring-of-eight.toml" "$top/tests/values/ring-of-eight.toml"
 try 'an empty second life' 11 $'refused second rule 1 place 0\n' join "$top/tests/values/active-annuity.toml" /dev/null
 
+# holdings as spreadsheets write them: a byte order mark, quoted fields, CR LF, an empty line, and a last line without end;
+# twice 384 minor units within 0.000001, and nothing at the term
+printf '\xef\xbb\xbf"file",group,month,state,count\r\n%s,2020,0,"on",2\r\n\r\n%s,2021,12,on,5\r\n%s,2020,12,on,5' \
+  "$top/examples/flat.toml" "$top/examples/flat.toml" "$top/examples/flat.toml" >"$work/holdings.csv"
+totals=$'portfolio\ndegree 8 policies 3 groups 2\n2020 767.999998 768.000002 0.000016\n2021 0.000000 0.000000 0.000010\nend 2\n'
+totals+=$'column 1\n0 0 0.000004\n0 1 0.000000\ncolumn 2\n0 0 +\n0 1 0\n'
+totals+=$'column 3\n0,0,total,767.999998,768.000002\n0,1,total,0.000000,0.000000\n'
+try 'holdings of two groups' 0 "$totals" portfolio "$work/holdings.csv"
+# 24000 (1 - exp(-1/2)) = 9443.264166896..: an interval of at most 0.000003 that holds it starts with these digits
+printf 'file,group,month,state,count\n%s,y,0,active,1\n' "$top/tests/values/active-annuity.toml" >"$work/one.csv"
+try_start 'a holding of an annuity' $'portfolio\ndegree 8 policies 1 groups 1\ny 9443.26416' portfolio "$work/one.csv"
+printf 'file,group,month,state,count\n' >"$work/none.csv"
+try 'no holdings' 0 $'portfolio\ndegree 8 policies 0 groups 0\nend 0\ncolumn 1\ncolumn 2\ncolumn 3\n' \
+  portfolio "$work/none.csv"
+printf 'file,group,month,state,count\n%s,x,0,on,0\n' "$work/missing.toml" >"$work/count.csv"
+try 'a holding of no contract' 14 $'refused row 1 part 5\n' portfolio "$work/count.csv"
+printf 'file,group,month,state,count\n%s,x,13,on,1\n/dev/null,x,0,on,1\n' "$top/examples/flat.toml" >"$work/empty.csv"
+try 'a holding of an empty product file' 15 $'refused policy file 1 rule 1 place 0\n' portfolio "$work/empty.csv"
+printf 'file,group,month,state,count\n%s,x,0,on,1\n%s,x,13,on,1\n' "$work/long.toml" "$work/missing.toml" >"$work/too-long.csv"
+try 'a holding of a product file of 1,048,577 bytes' 15 $'refused policy file 0 length 1048577\n' portfolio "$work/too-long.csv"
+printf 'file,group,month,state,count\n%s,x,12,on,1\n%s,x,13,on,1\n' \
+  "$top/examples/flat.toml" "$top/examples/flat.toml" >"$work/late.csv"
+try 'a holding behind the term' 14 $'refused row 2 part 6\n' portfolio "$work/late.csv"
+printf 'file,group,month,state,count\n%s,x,0,on,1\n' "$work/missing.toml" >"$work/missing.csv"
+try 'a holding of a missing product file' 3 '' portfolio "$work/missing.csv"
+try 'a product file for holdings' 14 $'refused row 0 part 0\n' portfolio "$top/examples/flat.toml"
+try 'holdings of 1,048,577 bytes' 4 $'refused length 1048577\n' portfolio "$work/long.toml"
+try 'a portfolio of no file' 2 "$no_reading" portfolio ''
+
 # how each file of `files` is judged: `ok`, the product's name and how much it has of what; or the line that refuses it
 while read -r name verdict <&3; do
   case $verdict in

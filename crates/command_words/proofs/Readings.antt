@@ -4,7 +4,7 @@ use Rattle.std.specs.Prelude.{◌==◌, if◌then◌else◌, ℤ, pos, Option, S
 use Rattle.std.proofs.lemmas.Fmt.{decimal_injective}
 use Rattle.decimal_in.specs.Decimals.{unsigned_millionths_of}
 use Rattle.command_words.specs.Readings.{Request, Check, Value, Reserves, Occupancy, Moments, Premium, Generate}
-use Rattle.command_words.specs.Readings.{Load, Upgrade, Join, Compare, Audit, AreReadAs, ReadingsAreOne}
+use Rattle.command_words.specs.Readings.{Load, Upgrade, Join, Compare, Audit, Portfolio, AreReadAs, ReadingsAreOne}
 
 -- a word by its place, and the first two letters of the first word, as one number
 abbrev word-at : ℕ → List (List ℕ) → List ℕ
@@ -29,8 +29,8 @@ make first file second distance number =
     else (if first == 111099 then Occupancy file number else (if first == 109111 then Moments file number
     else (if first == 99111 then Compare file second number else (if first == 117112 then Upgrade file
     else (if first == 106111 then Join file second else (if first == 108111 then Load number
-    else (if first == 97117 then Audit file second distance
-    else Generate number))))))))))
+    else (if first == 97117 then Audit file second distance else (if first == 112111 then Portfolio file
+    else Generate number)))))))))))
 
 -- where its number stands: the second word where there is a seed, the third or fourth of requests at dates, and else nowhere
 abbrev text : ℕ → List (List ℕ) → List ℕ
@@ -53,6 +53,7 @@ number-of (Upgrade file) = 0
 number-of (Join first second) = 0
 number-of (Compare first second every) = every
 number-of (Audit file claims eps) = 0
+number-of (Portfolio file) = 0
 
 made : (words : List (List ℕ)) (a : Request) → AreReadAs words a
     → a ≡ make (letters words) (word-at 1 words) (word-at 2 words) (distance-in (word-at 3 words)) (number-of a)
@@ -70,6 +71,7 @@ made words (Compare first second every) a =
     rw (ap letters a.are, ap (word-at 1) a.are, ap (word-at 2) a.are) refl
 made words (Audit file claims eps) a =
     rw (ap letters a.are, ap (word-at 1) a.are, ap (word-at 2) a.are, ap (word-at 3) a.are, a.reads) refl
+made words (Portfolio file) a = rw (ap letters a.are, ap (word-at 1) a.are) refl
 
 written : (words : List (List ℕ)) (a : Request) → AreReadAs words a
     → decimal (number-of a) ≡ text (letters words) words
@@ -85,6 +87,7 @@ written words (Upgrade file) a = rw (ap letters a.are) refl
 written words (Join first second) a = rw (ap letters a.are) refl
 written words (Compare first second every) a = rw (ap letters a.are) (sym (ap (word-at 3) a.are))
 written words (Audit file claims eps) a = rw (ap letters a.are) refl
+written words (Portfolio file) a = rw (ap letters a.are) refl
 
 fits : (words : List (List ℕ)) (a : Request) → AreReadAs words a → number-of a < 2 ^ 64
 fits words (Check file) a = lit< tt
@@ -99,6 +102,7 @@ fits words (Upgrade file) a = lit< tt
 fits words (Join first second) a = lit< tt
 fits words (Compare first second every) a = omega (arith, a.most)
 fits words (Audit file claims eps) a = lit< tt
+fits words (Portfolio file) a = lit< tt
 
 pub readings_are_one : ReadingsAreOne
 readings_are_one words a b x y =

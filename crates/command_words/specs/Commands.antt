@@ -2,7 +2,7 @@
 use Rattle.command_words.specs.declared.command.Command.{Command}
 use Rattle.command_words.specs.declared.command.Command.TheVariants as command
 use Rattle.command_words.specs.Readings.{Request, Check, Value, Reserves, Occupancy, Moments, Premium, Generate}
-use Rattle.command_words.specs.Readings.{Load, Upgrade, Join, Compare, Audit}
+use Rattle.command_words.specs.Readings.{Load, Upgrade, Join, Compare, Audit, Portfolio}
 
 -- the request of a command
 abbrev pub request_of : Command → Request
@@ -18,3 +18,4 @@ request_of (command.Upgrade file) = Upgrade file.now
 request_of (command.Join first second) = Join first.now second.now
 request_of (command.Compare first second every) = Compare first.now second.now every
 request_of (command.Audit file claims eps) = Audit file.now claims.now eps
+request_of (command.Portfolio file) = Portfolio file.now

@@ -23,6 +23,7 @@ pub data Request : Type 0 where
   Join : List ℕ → List ℕ → Request
   Compare : List ℕ → List ℕ → ℕ → Request
   Audit : List ℕ → List ℕ → ℤ → Request
+  Portfolio : List ℕ → Request
 
 -- the words are a command and the name of a file, which has at least one byte
 pub record AsksOfFile (words : List (List ℕ)) (command file : List ℕ) : Type 0 where
@@ -77,6 +78,7 @@ AreReadAs words (Upgrade file) = AsksOfFile words (codes "upgrade") file
 AreReadAs words (Join first second) = AsksOfFiles words (codes "join") first second
 AreReadAs words (Compare first second every) = AsksOfFilesAtDates words (codes "compare") first second every
 AreReadAs words (Audit file claims eps) = AsksOfClaims words file claims eps
+AreReadAs words (Portfolio file) = AsksOfFile words (codes "portfolio") file
 
 -- the words have a reading
 abbrev pub HaveReading : List (List ℕ) → Type 0

@@ -38,6 +38,8 @@ pub enum Command<'a> {
     /// Which of the claims in the second file are near the reserves of the product in the first one: at most so many
     /// millionths of a minor unit away.
     Audit(&'a str, &'a str, i128),
+    /// The totals by group of the reserves of the contracts that a CSV file holds.
+    Portfolio(&'a str),
 }
 
 // A command about one file, or one seed.
@@ -65,6 +67,7 @@ fn two_words<'a>(command: &str, word: &'a str) -> Option<Command<'a>>
         "value" => Some(Command::Value(word)),
         "premium" => Some(Command::Premium(word)),
         "upgrade" => Some(Command::Upgrade(word)),
+        "portfolio" => Some(Command::Portfolio(word)),
         _ => None,
     }
 }

@@ -59,7 +59,7 @@ totals_alike f in_b in_a of_b of_a start (x ∷ xs) same_in same_of =
 -- ---- degrees
 
 -- no degree is above the greatest
-degrees_within : (most : ℕ) (valued : List ValuedProduct) (n : ℕ)
+pub degrees_within : (most : ℕ) (valued : List ValuedProduct) (n : ℕ)
     → fold (λ m v. max m v.degree) most valued ≤ n → (most ≤ n) × AreReached n valued
 degrees_within most [] n above = (above, λ k d within. absurd (omega (arith, within)))
 degrees_within most (v ∷ valued) n above =

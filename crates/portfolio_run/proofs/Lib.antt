@@ -1,4 +1,5 @@
 pub mod AllSums
+pub mod FileNames
 pub mod FirstHoldings
 pub mod FiveFields
 pub mod GroupSums
@@ -7,5 +8,9 @@ pub mod KeptTables
 pub mod KeptTotals
 pub mod NamedSums
 pub mod NotedNames
+pub mod OneCover
+pub mod OneReading
 pub mod OwnPlaces
+pub mod PrintedTotals
 pub mod RecordCounts
+pub mod TotalLines

@@ -6,4 +6,5 @@ pub mod Stored
 pub mod Sums
 pub mod Tables
 pub mod Totals
+pub mod TotalsText
 pub mod Values

@@ -53,6 +53,10 @@ pub record Portfolio : Type 0 where
   pub holdings : List Holding
   pub valued : List ValuedProduct
 
+-- a portfolio of these holdings, with these products valued
+abbrev pub portfolio_of : List Holding → List ValuedProduct → Portfolio
+portfolio_of holdings valued = record { holdings = holdings; valued = valued }
+
 -- one product more is valued
 pub record AddsValued (product : Product) (old new : Portfolio) : Type 0 where
   pub holdings : new.holdings ≡ old.holdings

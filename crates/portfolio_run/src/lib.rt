@@ -7,12 +7,14 @@ mod policies;
 mod reading;
 mod sums;
 mod totals;
+mod totals_text;
 mod valued;
 
 pub use fields::Fault;
 pub use policies::Policies;
 pub use reading::{PolicyError, read_policies};
 pub use totals::{Total, Totals};
+pub use totals_text::totals_bytes;
 
 #[cfg(test)]
 mod tests;

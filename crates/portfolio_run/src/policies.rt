@@ -9,6 +9,7 @@ ghost use Rattle.state_graph.specs.StateGraphs.{texts_of};
 ghost use Rattle.portfolio_run.specs.Readings.{files_of};
 ghost use Rattle.portfolio_run.specs.Totals.{AreTotals, TellsUncovered};
 ghost use Rattle.portfolio_run.specs.Stored.{most_bytes, AddsValued, AreKept, kept_holdings};
+ghost use Rattle.portfolio_run.specs.TotalsText.{HaveText};
 
 use crate::names::Names;
 use crate::reading::PolicyError;
@@ -96,6 +97,7 @@ impl Policies {
     pub fn totals(&self) -> Result<Totals, PolicyError>
         requires all { length self.now.valued ≡ length (files_of self.now.holdings) }
         ensures ok { IfOk result (AreTotals self.now) }
+        ensures text { IfOk result HaveText }
         ensures err { IfErr result (TellsUncovered self.now) }
     {
         totals_of(

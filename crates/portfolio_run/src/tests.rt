@@ -1,3 +1,5 @@
+mod totals;
+
 use crate::{PolicyError, read_policies};
 use rule_breaks::RowBreak;
 use std::test::Fail;

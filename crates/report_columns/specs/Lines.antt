@@ -19,6 +19,7 @@ word_of what.Variance = codes "variance"
 word_of what.Benefits = codes "benefits"
 word_of what.Pattern = codes "pattern"
 word_of what.Premium = codes "premium"
+word_of what.Total = codes "total"
 
 -- a number of a row in the row's format: whole squared minor units, or millionths
 abbrev pub in_format : What → ℤ → List ℕ
@@ -31,6 +32,7 @@ in_format what.First number = millionths number
 in_format what.Benefits number = millionths number
 in_format what.Pattern number = millionths number
 in_format what.Premium number = millionths number
+in_format what.Total number = millionths number
 
 -- the sign of all numbers between two ends, as a byte: + above 0, - below 0, 0 where there is no other number, and
 -- ? where the ends leave it open

@@ -23,6 +23,7 @@ impl What {
             What::Benefits => b"benefits",
             What::Pattern => b"pattern",
             What::Premium => b"premium",
+            What::Total => b"total",
         }
     }
 }

@@ -21,6 +21,8 @@ pub enum What {
     Pattern,
     /// The equivalence premium, in millionths of a minor unit.
     Premium,
+    /// The total of the reserves of a group of contracts, in millionths of a minor unit.
+    Total,
 }
 
 /// One printed interval, both ends included, in the unit of what it is about.
@@ -28,7 +30,7 @@ pub enum What {
 pub struct Note {
     /// Months from issue.
     pub month: u32,
-    /// The state's index in the file's list of states.
+    /// The state's index in the file's list of states; of a total, the index of the group.
     pub state: u32,
     pub what: What,
     /// Rounded down.

@@ -6,5 +6,4 @@ mod RowLines
 mod Shapes
 mod SmallRadii
 mod TablePlaces
-mod ToldRows
 mod TwoLines

@@ -31,6 +31,7 @@ form_of what.Variance = whole_units
 form_of what.Benefits = millionths
 form_of what.Pattern = millionths
 form_of what.Premium = millionths
+form_of what.Total = millionths
 
 -- the exact number that a row is about; of a premium, which is a quotient, this says nothing
 abbrev pub exact_of : Product → What → (degree month state : ℕ) → Fraction
@@ -43,8 +44,9 @@ exact_of p what.Variance = variance p
 exact_of p what.Benefits = λ n month state. benefits p n
 exact_of p what.Pattern = λ n month state. pattern_value p n
 exact_of p what.Premium = λ n month state. value_before_issue p (payment_plan p) n
+exact_of p what.Total = reserve p (payment_plan p)
 
--- a row about something else than a premium
+-- a row about something else than a premium or a total
 abbrev pub IsOfNumber : What → Type 0
 IsOfNumber what.Value = ⊤
 IsOfNumber what.Reserve = ⊤
@@ -55,6 +57,7 @@ IsOfNumber what.Variance = ⊤
 IsOfNumber what.Benefits = ⊤
 IsOfNumber what.Pattern = ⊤
 IsOfNumber what.Premium = ⊥
+IsOfNumber what.Total = ⊥
 
 -- a row with these ends
 abbrev pub row_with : What → (month state : ℕ) → Printed → Note
@@ -85,6 +88,7 @@ row_is_right p what.Benefits degree month state ends number are =
 row_is_right p what.Pattern degree month state ends number are =
     record { holds = λ n from. between (10 ^ 6) ends _ (are.holds n from); narrow = are.narrow }
 row_is_right p what.Premium degree month state ends number are = absurd number
+row_is_right p what.Total degree month state ends number are = absurd number
 
 -- ends of either form can be printed by a column
 pub row_has_ends : (about : What) (degree month state : ℕ) (exact : ℕ → Fraction) (width : ℕ) (ends : Printed)
@@ -105,6 +109,7 @@ row_has_ends about degree month state exact width ends are = record {
     most_is what.Benefits = lit≤ tt
     most_is what.Pattern = lit≤ tt
     most_is what.Premium = lit≤ tt
+    most_is what.Total = lit≤ tt
 
     below : (size most : ℕ) → size ≤ most → most ≤ 2 ^ 120 → size < 2 ^ 126
     below size most small few = omega (arith, small, few)
@@ -155,6 +160,7 @@ width_is p what.Variance month state ends number = refl
 width_is p what.Benefits month state ends number = refl
 width_is p what.Pattern month state ends number = refl
 width_is p what.Premium month state ends number = absurd number
+width_is p what.Total month state ends number = absurd number
 
 -- the row at a place of a table is right
 pub place_is_right : (p : Product) (about : What) (every degree : ℕ) (t : Table) (place : ℕ) → IsOfNumber about

@@ -16,7 +16,7 @@ use Rattle.reserve_report.specs.declared.report.Kind.{Kind}
 use Rattle.reserve_report.specs.declared.report.Kind.TheVariants as kind
 use Rattle.reserve_report.specs.declared.report.Report.{Report}
 
--- what a row is about, in the model
+-- what a row is about, in the model. No report about one product has a total of many; its kind is that of a reserve
 abbrev pub kind_of : What → model.RowKind
 kind_of what.Value = model.Value
 kind_of what.Reserve = model.Reserve
@@ -27,6 +27,7 @@ kind_of what.Variance = model.Variance
 kind_of what.Benefits = model.Benefits
 kind_of what.Pattern = model.Pattern
 kind_of what.Premium = model.Premium
+kind_of what.Total = model.Reserve
 
 -- a row as the model's
 abbrev pub row_of : Note → model.Row

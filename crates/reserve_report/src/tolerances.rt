@@ -20,7 +20,7 @@ fn tolerance_of(adm: &Admitted, row: &Note) -> u128
     let scale = adm.scale(Which::Benefits);
     match row.what {
         What::Value | What::Benefits => tolerance_first(adm.radius(0), scale),
-        What::Reserve | What::First => tolerance_first(adm.radius(row.month), scale),
+        What::Reserve | What::First | What::Total => tolerance_first(adm.radius(row.month), scale),
         What::Occupancy => tolerance_first(adm.radius_forward(row.month), 0),
         What::Second => tolerance_second(adm.radius_second(row.month), scale),
         What::Variance => {

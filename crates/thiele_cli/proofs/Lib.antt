@@ -6,6 +6,8 @@ pub mod Growth
 pub mod JointFiles
 pub mod MonthGrids
 pub mod OneCase
+pub mod OnePortfolio
+pub mod Portfolios
 pub mod Premiums
 pub mod Reported
 pub mod Seeds

@@ -8,10 +8,15 @@ use Rattle.product_file.specs.Verdict.{IsNotToml, Breaks}
 use Rattle.command_words.proofs.Readings.{readings_are_one}
 use Rattle.thiele_cli.specs.declared.file_break.FileBreak.{FileBreak}
 use Rattle.thiele_cli.specs.declared.file_break.FileBreak.TheVariants as file
-use Rattle.thiele_cli.specs.Questions.{Asked, OfFile, OfFiles, OfSeed, LoadOf, OfClaims, asked_of}
+use Rattle.thiele_cli.specs.Questions.{Asked, OfFile, OfFiles, OfSeed, LoadOf, OfClaims, OfPortfolio, asked_of}
 use Rattle.thiele_cli.specs.Cases.{Files, IsLong, AreBytesOf, HasFault, HasProduct}
 use Rattle.thiele_cli.specs.Cases.{Case, FirstRefused, SecondRefused, Answered, AnsweredOfTwo, AnsweredOfClaims}
 use Rattle.thiele_cli.specs.Cases.{IsFileCase, IsSecondCase, IsTextCase, IsClaimsCase, IsAskedCase, IsCase}
+use Rattle.thiele_cli.specs.Cases.{WrongRow, PolicyRefused, IsCoverCase, IsHoldingsCase, IsPoliciesCase}
+use Rattle.portfolio_run.specs.Holdings.{Holding}
+use Rattle.portfolio_run.specs.Readings.{files_of}
+use Rattle.portfolio_run.proofs.OneReading.{one_text_holdings, one_text_wrong, wrong_or_holdings}
+use Rattle.thiele_cli.proofs.OnePortfolio.{ComesToOne, one_cover_case, one_products, one_refused, refused_or_products}
 use Rattle.thiele_cli.proofs.Verdicts.{one-product, one-break, valid-or-broken, toml-or-broken, toml-or-valid}
 
 -- ---- files
@@ -97,6 +102,42 @@ one_text_case files name refused IsRest a b one_rest (inr x) (inl y) = absurd (n
 one_text_case files name refused IsRest a b one_rest (inr x) (inr y) =
     one_rest y.0 a b (subst (λ text. IsRest text a) (one_text files name x.0 y.0 x.1 y.1) x.2) y.2
 
+-- of each file of a portfolio
+comes_to_one : (files : List (List ℕ × List ℕ)) → ComesToOne (HasProduct (Some files)) (HasFault (Some files))
+comes_to_one files = record {
+  product = one_file_product files;
+  fault = one_fault files;
+  either = fault_or_product files;
+}
+
+-- holdings come to one case
+one_holdings_case : (files : List (List ℕ × List ℕ)) (holdings : List Holding) (a b : Case)
+    → IsHoldingsCase (Some files) holdings a → IsHoldingsCase (Some files) holdings b → a ≡ b
+one_holdings_case files holdings a b (inl x) (inl y) =
+    x.2 ∙ ap (λ broken. PolicyRefused broken) (one_refused (HasProduct (Some files)) (HasFault (Some files))
+    (files_of holdings) x.0 y.0 (comes_to_one files) x.1 y.1) ∙ sym y.2
+one_holdings_case files holdings a b (inl x) (inr y) =
+    absurd (refused_or_products (HasProduct (Some files)) (HasFault (Some files)) (files_of holdings) x.0.file
+    x.0.cause y.0 (comes_to_one files) x.1 y.1)
+one_holdings_case files holdings a b (inr x) (inl y) =
+    absurd (refused_or_products (HasProduct (Some files)) (HasFault (Some files)) (files_of holdings) y.0.file
+    y.0.cause x.0 (comes_to_one files) y.1 x.1)
+one_holdings_case files holdings a b (inr x) (inr y) =
+    let products : x.0 ≡ y.0 = one_products (HasProduct (Some files)) (HasFault (Some files)) (files_of holdings)
+    x.0 y.0 (comes_to_one files) x.1 y.1 in
+    one_cover_case holdings y.0 a b (subst (λ p. IsCoverCase holdings p a) products x.2) y.2
+
+-- the text of a portfolio comes to one case
+one_policies_case : (files : List (List ℕ × List ℕ)) (text : List ℕ) (a b : Case) → IsPoliciesCase (Some files) text a
+    → IsPoliciesCase (Some files) text b → a ≡ b
+one_policies_case files text a b (inl x) (inl y) =
+    x.2 ∙ ap (λ broken. WrongRow broken) (one_text_wrong text x.0 y.0 x.1 y.1) ∙ sym y.2
+one_policies_case files text a b (inl x) (inr y) = absurd (wrong_or_holdings text x.0 y.0 x.1 y.1)
+one_policies_case files text a b (inr x) (inl y) = absurd (wrong_or_holdings text y.0 x.0 y.1 x.1)
+one_policies_case files text a b (inr x) (inr y) =
+    one_holdings_case files y.0 a b
+    (subst (λ h. IsHoldingsCase (Some files) h a) (one_text_holdings text x.0 y.0 x.1 y.1) x.2) y.2
+
 one_asked_case : (files : List (List ℕ × List ℕ)) (asked : Asked) (a b : Case) → IsAskedCase (Some files) asked a
     → IsAskedCase (Some files) asked b → a ≡ b
 one_asked_case files (OfFile what name) a b x y =
@@ -112,6 +153,8 @@ one_asked_case files (OfClaims name claims eps) a b x y =
     one_file_case files name FirstRefused (IsClaimsCase (Some files) eps claims) a b
     (λ product c d s t. one_text_case files claims SecondRefused (λ text rest. rest ≡ AnsweredOfClaims eps product text)
     c d (λ text e f u v. u ∙ sym v) s t) x y
+one_asked_case files (OfPortfolio csv) a b x y =
+    one_text_case files csv FirstRefused (IsPoliciesCase (Some files)) a b (one_policies_case files) x y
 
 -- words over told files are of one case
 pub one_case : (files : Files) (words : List (List ℕ)) (a b : Case) → IsSome files → IsCase files words a

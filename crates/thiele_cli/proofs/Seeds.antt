@@ -5,8 +5,8 @@ use Rattle.command_words.proofs.Readings.{readings_are_one}
 use Rattle.thiele_cli.specs.declared.answer.Answer.{Answer}
 use Rattle.thiele_cli.specs.declared.end.End.{End}
 use Rattle.thiele_cli.specs.declared.end.End.TheVariants as end
-use Rattle.thiele_cli.specs.Questions.{asked_of, AreOfSeed, IsAskedOf}
-use Rattle.thiele_cli.specs.Cases.{Files, Case, Generated, Loaded, IsAskedCase, IsCase}
+use Rattle.thiele_cli.specs.Questions.{asked_of, AreOfSeed}
+use Rattle.thiele_cli.specs.Cases.{Files, Case, Generated, Loaded, IsAskedCase, IsAskedOf, IsCase}
 use Rattle.thiele_cli.specs.Loads.{IsLoaded}
 use Rattle.thiele_cli.specs.Replies.{end_of, Answers, IsGenerated}
 use Rattle.thiele_cli.specs.Ends.{IsAnswer}
@@ -45,9 +45,9 @@ seed_read words seed (inl read) = (Generate seed, read)
 seed_read words seed (inr read) = (Load seed, read)
 
 -- and nothing is asked of a file
-pub no_file_of_seed : (words : List (List ℕ)) (request : Request) (seed : ℕ) (file : List ℕ)
-    → AreReadAs words request → IsAskedOf (asked_of request) file → AreOfSeed words seed → ⊥
-no_file_of_seed words request seed file read asked (inl of_seed) =
-    subst (λ r. IsAskedOf (asked_of r) file) (readings_are_one words request (Generate seed) read of_seed) asked
-no_file_of_seed words request seed file read asked (inr of_seed) =
-    subst (λ r. IsAskedOf (asked_of r) file) (readings_are_one words request (Load seed) read of_seed) asked
+pub no_file_of_seed : (files : Files) (words : List (List ℕ)) (request : Request) (seed : ℕ) (file : List ℕ)
+    → AreReadAs words request → IsAskedOf files (asked_of request) file → AreOfSeed words seed → ⊥
+no_file_of_seed files words request seed file read asked (inl of_seed) =
+    subst (λ r. IsAskedOf files (asked_of r) file) (readings_are_one words request (Generate seed) read of_seed) asked
+no_file_of_seed files words request seed file read asked (inr of_seed) =
+    subst (λ r. IsAskedOf files (asked_of r) file) (readings_are_one words request (Load seed) read of_seed) asked

@@ -10,7 +10,12 @@ use Rattle.thiele_cli.specs.declared.file_break.FileBreak.{FileBreak}
 use Rattle.thiele_cli.specs.declared.file_break.FileBreak.TheVariants as file
 use Rattle.thiele_cli.specs.declared.question.Question.{Question}
 use Rattle.thiele_cli.specs.declared.pair_question.PairQuestion.{PairQuestion}
-use Rattle.thiele_cli.specs.Questions.{Asked, OfFile, OfFiles, OfSeed, LoadOf, OfClaims, asked_of}
+use Rattle.rule_breaks.specs.declared.breaks.RowBreak.{RowBreak}
+use Rattle.portfolio_run.specs.Holdings.{Holding}
+use Rattle.portfolio_run.specs.Readings.{AreHoldingsIn, files_of}
+use Rattle.thiele_cli.specs.declared.policy_break.PolicyBreak.{PolicyBreak}
+use Rattle.thiele_cli.specs.Portfolios.{ComeTo, IsFirstRefused, IsWrongRow, IsUncoveredRow, AreCovered, NamesFile}
+use Rattle.thiele_cli.specs.Questions.{Asked, OfFile, OfFiles, OfSeed, LoadOf, OfClaims, OfPortfolio, asked_of}
 
 -- what a shelf tells of its files: the names with their bytes, or nothing
 abbrev pub Files : Type 0
@@ -44,11 +49,15 @@ HasProduct files name product = (bytes : List ℕ) × AreBytesOf files name byte
 
 -- what words and files come to: no reading, a seed whose file or whose reserves are asked for, a first or a second
 -- file that is refused, a question about a product or about two that break no rule, or a distance, such a product and
--- the text of claims about it
+-- the text of claims about it; of a portfolio a row that is wrong, a product file that is refused, or holdings and the
+-- products of their files
 pub data Case : Type 0 where
   NoReading : Case
   Generated : ℕ → Case
   Loaded : ℕ → Case
+  WrongRow : RowBreak → Case
+  PolicyRefused : PolicyBreak → Case
+  SummedUp : List Holding → List Product → Case
   FirstRefused : FileBreak → Case
   SecondRefused : FileBreak → Case
   Answered : Question → Product → Case
@@ -77,6 +86,27 @@ abbrev pub IsClaimsCase : Files → ℤ → List ℕ → Product → Case → Ty
 IsClaimsCase files eps name product case =
     IsTextCase files name SecondRefused (λ text rest. rest ≡ AnsweredOfClaims eps product text) case
 
+-- what holdings come to, whose different files have these products: a row whose product has not its date or its state,
+-- or what is summed up
+abbrev pub IsCoverCase : List Holding → List Product → Case → Type 0
+IsCoverCase holdings products case =
+    ((broken : RowBreak) × IsUncoveredRow holdings products broken × (case ≡ WrongRow broken))
+    ⊎ (AreCovered holdings products × (case ≡ SummedUp holdings products))
+
+-- what holdings come to: the first of their different files that is refused, or each file has a product
+abbrev pub IsHoldingsCase : Files → List Holding → Case → Type 0
+IsHoldingsCase files holdings case =
+    ((broken : PolicyBreak) × IsFirstRefused (HasProduct files) (HasFault files) (files_of holdings) broken.file
+    broken.cause × (case ≡ PolicyRefused broken))
+    ⊎ ((products : List Product) × ComeTo (HasProduct files) (files_of holdings) products
+    × IsCoverCase holdings products case)
+
+-- what the text of a portfolio comes to: its first wrong row, or its holdings
+abbrev pub IsPoliciesCase : Files → (text : List ℕ) → Case → Type 0
+IsPoliciesCase files text case =
+    ((broken : RowBreak) × IsWrongRow text broken × (case ≡ WrongRow broken))
+    ⊎ ((holdings : List Holding) × AreHoldingsIn text holdings × IsHoldingsCase files holdings case)
+
 -- what a request comes to by what it asks; a second file is looked at only where the first has a product
 abbrev pub IsAskedCase : Files → Asked → Case → Type 0
 IsAskedCase files (OfFile what name) case =
@@ -87,9 +117,27 @@ IsAskedCase files (OfSeed seed) case = case ≡ Generated seed
 IsAskedCase files (LoadOf seed) case = case ≡ Loaded seed
 IsAskedCase files (OfClaims name claims eps) case =
     IsFileCase files name FirstRefused (IsClaimsCase files eps claims) case
+IsAskedCase files (OfPortfolio csv) case = IsTextCase files csv FirstRefused (IsPoliciesCase files) case
 
 -- what the words come to: they have no reading, or they are read as this request
 abbrev pub IsCase : Files → List (List ℕ) → Case → Type 0
 IsCase files words case =
     ((¬ HaveReading words) × (case ≡ NoReading))
     ⊎ ((request : Request) × AreReadAs words request × IsAskedCase files (asked_of request) case)
+
+-- a holding of the portfolio in that file names this file
+abbrev pub IsNamedIn : Files → (csv name : List ℕ) → Type 0
+IsNamedIn files csv name = (text : List ℕ) × AreBytesOf files csv text × NamesFile text name
+
+-- something is asked of this file
+abbrev pub IsAskedOf : Files → Asked → List ℕ → Type 0
+IsAskedOf files (OfFile what name) file = file ≡ name
+IsAskedOf files (OfFiles what first second) file = (file ≡ first) ⊎ (file ≡ second)
+IsAskedOf files (OfSeed seed) file = ⊥
+IsAskedOf files (LoadOf seed) file = ⊥
+IsAskedOf files (OfClaims name claims eps) file = (file ≡ name) ⊎ (file ≡ claims)
+IsAskedOf files (OfPortfolio csv) file = (file ≡ csv) ⊎ IsNamedIn files csv file
+
+-- the words ask something of this file, or of one that a portfolio names of which they ask
+abbrev pub AskAbout : Files → List (List ℕ) → List ℕ → Type 0
+AskAbout files words file = (request : Request) × AreReadAs words request × IsAskedOf files (asked_of request) file

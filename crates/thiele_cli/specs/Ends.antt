@@ -24,12 +24,14 @@ status_of (end.Join broken) = 12
 status_of (end.Derived found) = 13
 status_of (end.Compare broken) = 16
 status_of (end.Row broken) = 14
+status_of (end.Policy broken) = 15
 
 -- what is handed back beside the report is there
 abbrev pub IsExtra : Extra → Type 0
 IsExtra extra.Nothing = ⊥
 IsExtra (extra.Compare changes) = ⊤
 IsExtra (extra.Audit audited) = ⊤
+IsExtra (extra.Portfolio totals) = ⊤
 
 -- the ends of a run that has no answer or could not write it
 abbrev pub IsFault : End → Type 0

@@ -2,7 +2,9 @@
 use Rattle.std.specs.Prelude.{⊤}
 use Rattle.thiele_cli.specs.declared.inquiry.Inquiry.{Inquiry}
 use Rattle.thiele_cli.specs.declared.inquiry.Inquiry.TheVariants as inquiry
-use Rattle.thiele_cli.specs.Questions.{Asked, OfFile, OfFiles, OfSeed, LoadOf, HasDates, HasDatesOfTwo}
+use Rattle.thiele_cli.specs.Audits.{IsDistance}
+use Rattle.thiele_cli.specs.Questions.{Asked, OfFile, OfFiles, OfSeed, LoadOf, OfClaims, OfPortfolio}
+use Rattle.thiele_cli.specs.Questions.{HasDates, HasDatesOfTwo}
 
 -- what an inquiry asks
 abbrev pub asked_by : Inquiry → Asked
@@ -10,10 +12,14 @@ asked_by (inquiry.OfFile question name) = OfFile question name.now
 asked_by (inquiry.OfFiles question first second) = OfFiles question first.now second.now
 asked_by (inquiry.OfSeed seed) = OfSeed seed
 asked_by (inquiry.LoadOf seed) = LoadOf seed
+asked_by (inquiry.OfClaims name claims eps) = OfClaims name.now claims.now eps
+asked_by (inquiry.OfPortfolio csv) = OfPortfolio csv.now
 
--- dates that are asked for lie some months apart
-abbrev pub HasGoodDates : Asked → Type 0
-HasGoodDates (OfFile question name) = HasDates question
-HasGoodDates (OfFiles question first second) = HasDatesOfTwo question
-HasGoodDates (OfSeed seed) = ⊤
-HasGoodDates (LoadOf seed) = ⊤
+-- what is asked is within its limits: dates lie some months apart, and a distance is not too large
+abbrev pub IsWellAsked : Asked → Type 0
+IsWellAsked (OfFile question name) = HasDates question
+IsWellAsked (OfFiles question first second) = HasDatesOfTwo question
+IsWellAsked (OfSeed seed) = ⊤
+IsWellAsked (LoadOf seed) = ⊤
+IsWellAsked (OfClaims name claims eps) = IsDistance eps
+IsWellAsked (OfPortfolio csv) = ⊤

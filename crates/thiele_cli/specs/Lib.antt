@@ -9,6 +9,8 @@ pub mod JointFiles
 pub mod Loads
 pub mod MonthGrids
 pub mod Outcome
+pub mod PortfolioFiles
+pub mod Portfolios
 pub mod Premiums
 pub mod Questions
 pub mod Refusals

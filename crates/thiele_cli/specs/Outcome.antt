@@ -9,8 +9,7 @@ use Rattle.thiele_cli.specs.declared.end.End.{End}
 use Rattle.thiele_cli.specs.declared.end.End.TheVariants.{FetchFault, WriteFault, Memory}
 use Rattle.thiele_cli.specs.declared.end.Extra.{Extra}
 use Rattle.thiele_cli.specs.declared.end.Extra.TheVariants.{Nothing}
-use Rattle.thiele_cli.specs.Questions.{AskAbout}
-use Rattle.thiele_cli.specs.Cases.{Files}
+use Rattle.thiele_cli.specs.Cases.{Files, AskAbout}
 use Rattle.thiele_cli.specs.Replies.{end_of, report_of, extra_of, text_of}
 use Rattle.thiele_cli.specs.Ends.{IsAnswer}
 
@@ -25,15 +24,15 @@ Delivers text meant own old new =
 abbrev pub EndsAs : Answer → End → Type 0
 EndsAs given own = (own ≡ end_of given) ⊎ (own ≡ WriteFault)
 
--- there is no answer: a file that the words name was not fetched, or memory was refused
-abbrev pub HaveNoAnswer : List (List ℕ) → End → Type 0
-HaveNoAnswer words own = ((own ≡ FetchFault) × (file : List ℕ) × AskAbout words file) ⊎ (own ≡ Memory)
+-- there is no answer: a file of which the words ask was not fetched, or memory was refused
+abbrev pub HaveNoAnswer : Files → List (List ℕ) → End → Type 0
+HaveNoAnswer files words own = ((own ≡ FetchFault) × (file : List ℕ) × AskAbout files words file) ⊎ (own ≡ Memory)
 
 -- nothing is written where there is no answer; else the answer is that of the words and the files, with its report and
 -- these columns behind it, or with what else it has
 abbrev pub Writes : Files → List (List ℕ) → List ColumnText → End → Option Report → Extra → Option (List ℕ)
     → Option (List ℕ) → Type 0
 Writes files words columns own report extra old new =
-    (HaveNoAnswer words own × (report ≡ None) × (extra ≡ Nothing) × Keeps old new)
+    (HaveNoAnswer files words own × (report ≡ None) × (extra ≡ Nothing) × Keeps old new)
     ⊎ ((given : Answer) × IsAnswer files words given × (report ≡ report_of given) × (extra ≡ extra_of given)
     × Delivers (text_of given columns) (end_of given) own old new)

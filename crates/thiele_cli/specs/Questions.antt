@@ -1,20 +1,22 @@
 -- What the commands ask, and of which files or seed.
-use Rattle.std.specs.Prelude.{◌≡◌, ◌⊎◌, ℕ, ◌<◌, ℤ, List, ⊤}
+use Rattle.std.specs.Prelude.{◌⊎◌, ℕ, ◌<◌, ℤ, List, ⊤}
 use Rattle.command_words.specs.Readings.{Request, Check, Value, Reserves, Occupancy, Moments, Premium, Generate}
-use Rattle.command_words.specs.Readings.{Load, Upgrade, Join, Compare, Audit, AreReadAs}
+use Rattle.command_words.specs.Readings.{Load, Upgrade, Join, Compare, Audit, Portfolio, AreReadAs}
 use Rattle.thiele_cli.specs.declared.question.Question.{Question}
 use Rattle.thiele_cli.specs.declared.question.Question.TheVariants as question
 use Rattle.thiele_cli.specs.declared.pair_question.PairQuestion.{PairQuestion}
 use Rattle.thiele_cli.specs.declared.pair_question.PairQuestion.TheVariants as pair_question
 
 -- what is asked: something of the file with this name, something of two files, the product file of a seed, the
--- reserves of its product, or of a product file and a file of claims, which of these are near
+-- reserves of its product, of a product file and a file of claims, which of these are near, or the totals of the
+-- portfolio in a file
 pub data Asked : Type 0 where
   OfFile : Question → List ℕ → Asked
   OfFiles : PairQuestion → List ℕ → List ℕ → Asked
   OfSeed : ℕ → Asked
   LoadOf : ℕ → Asked
   OfClaims : List ℕ → List ℕ → ℤ → Asked
+  OfPortfolio : List ℕ → Asked
 
 -- what a request asks
 abbrev pub asked_of : Request → Asked
@@ -26,6 +28,7 @@ asked_of (Moments file every) = OfFile (question.Moments every) file
 asked_of (Premium file) = OfFile question.Premium file
 asked_of (Generate seed) = OfSeed seed
 asked_of (Load seed) = LoadOf seed
+asked_of (Portfolio csv) = OfPortfolio csv
 asked_of (Upgrade file) = OfFile question.Upgraded file
 asked_of (Join first second) = OfFiles pair_question.Joined first second
 asked_of (Compare first second every) = OfFiles (pair_question.Changes every) first second
@@ -53,15 +56,3 @@ IsRead request = (words : List (List ℕ)) × AreReadAs words request
 -- the words ask for the product file of a seed or for its reserves
 abbrev pub AreOfSeed : List (List ℕ) → ℕ → Type 0
 AreOfSeed words seed = AreReadAs words (Generate seed) ⊎ AreReadAs words (Load seed)
-
--- something is asked of this file
-abbrev pub IsAskedOf : Asked → List ℕ → Type 0
-IsAskedOf (OfFile what name) file = file ≡ name
-IsAskedOf (OfFiles what first second) file = (file ≡ first) ⊎ (file ≡ second)
-IsAskedOf (OfSeed seed) file = ⊥
-IsAskedOf (LoadOf seed) file = ⊥
-IsAskedOf (OfClaims name claims eps) file = (file ≡ name) ⊎ (file ≡ claims)
-
--- the words ask something of this file
-abbrev pub AskAbout : List (List ℕ) → List ℕ → Type 0
-AskAbout words file = (request : Request) × AreReadAs words request × IsAskedOf (asked_of request) file

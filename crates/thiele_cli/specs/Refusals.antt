@@ -8,6 +8,7 @@ use Rattle.thiele_cli.specs.declared.end.End.{End}
 use Rattle.thiele_cli.specs.declared.end.End.TheVariants as end
 use Rattle.thiele_cli.specs.declared.file_break.FileBreak.{FileBreak}
 use Rattle.thiele_cli.specs.declared.file_break.FileBreak.TheVariants as file
+use Rattle.thiele_cli.specs.declared.policy_break.PolicyBreak.{PolicyBreak}
 use Rattle.thiele_cli.specs.declared.refusal.Refusal.{Refusal}
 use Rattle.thiele_cli.specs.declared.refusal.Refusal.TheVariants as refusal
 
@@ -27,6 +28,7 @@ refused_end (refusal.Join broken) = end.Join broken
 refused_end (refusal.Derived found) = end.Derived found
 refused_end (refusal.Compare broken) = end.Compare broken
 refused_end (refusal.Row broken) = end.Row broken
+refused_end (refusal.Policy broken) = end.Policy broken
 
 -- rule K place P
 abbrev pub rule_words : RuleBreak → List ℕ
@@ -47,6 +49,11 @@ premium_line low =
 abbrev pub row_line : RowBreak → List ℕ
 row_line broken = codes "refused row " ++ decimal broken.row ++ codes " part " ++ decimal broken.part ++ codes "\n"
 
+-- refused policy file F, and the words that tell the cause
+abbrev pub policy_line : PolicyBreak → List ℕ
+policy_line broken =
+    codes "refused policy file " ++ decimal broken.file ++ codes " " ++ file_words broken.cause ++ codes "\n"
+
 -- the line of a refusal
 abbrev pub line_of : Refusal → List ℕ
 line_of refusal.Words = codes "refused words\n"
@@ -57,3 +64,4 @@ line_of (refusal.Join broken) = codes "refused join part " ++ decimal broken.par
 line_of (refusal.Derived found) = codes "refused derived " ++ rule_words found ++ codes "\n"
 line_of (refusal.Compare broken) = codes "refused compare part " ++ decimal broken.part ++ codes "\n"
 line_of (refusal.Row broken) = row_line broken
+line_of (refusal.Policy broken) = policy_line broken

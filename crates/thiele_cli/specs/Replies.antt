@@ -16,6 +16,8 @@ use Rattle.reserve_report.specs.Reports.{HasText}
 use Rattle.premium_solver.specs.Premiums.{IsTooSmall, IsLargePattern}
 use Rattle.reserve_report.specs.ReportText.{report_text}
 use Rattle.reserve_report.specs.CheckText.{check_text}
+use Rattle.portfolio_run.specs.TotalsText as totals_texts
+use Rattle.portfolio_run.specs.TotalsText.{totals_text}
 use Rattle.workload_gen.specs.Laws.{generated_product}
 use Rattle.workload_gen.specs.Tree.{generated}
 use Rattle.thiele_cli.specs.declared.end.End.{End}
@@ -37,9 +39,10 @@ use Rattle.thiele_cli.specs.Audits.{AnswersAudit}
 use Rattle.thiele_cli.specs.Comparisons.{AnswersComparison}
 use Rattle.thiele_cli.specs.JointFiles.{AnswersJoin}
 use Rattle.thiele_cli.specs.Loads.{IsLoaded}
+use Rattle.thiele_cli.specs.Portfolios.{AreSummedUp}
 use Rattle.thiele_cli.specs.Valuations.{IsValuation}
 use Rattle.thiele_cli.specs.Cases.{Case, NoReading, Generated, Loaded, FirstRefused, SecondRefused, Answered}
-use Rattle.thiele_cli.specs.Cases.{AnsweredOfTwo, AnsweredOfClaims}
+use Rattle.thiele_cli.specs.Cases.{AnsweredOfTwo, AnsweredOfClaims, WrongRow, PolicyRefused, SummedUp}
 
 -- the end of a run with this answer, once its text is written
 abbrev pub end_of : Answer → End
@@ -50,6 +53,7 @@ end_of (answer.File text) = end.Done
 end_of (answer.Refused why) = refused_end why
 end_of (answer.Changes old new changes) = end.Done
 end_of (answer.Audit product eps audited) = end.Done
+end_of (answer.Portfolio totals) = end.Done
 
 -- the report of an answer that is one
 abbrev pub report_of : Answer → Option Report
@@ -60,6 +64,7 @@ report_of (answer.File text) = None
 report_of (answer.Refused why) = None
 report_of (answer.Changes old new changes) = None
 report_of (answer.Audit product eps audited) = None
+report_of (answer.Portfolio totals) = None
 
 -- what it has beside a report
 abbrev pub extra_of : Answer → Extra
@@ -70,8 +75,9 @@ extra_of (answer.File text) = extra.Nothing
 extra_of (answer.Refused why) = extra.Nothing
 extra_of (answer.Changes old new changes) = extra.Compare changes
 extra_of (answer.Audit product eps audited) = extra.Audit audited
+extra_of (answer.Portfolio totals) = extra.Portfolio totals
 
--- the text of an answer, with these columns behind a report
+-- the text of an answer, with these columns behind a report or behind totals
 abbrev pub text_of : Answer → List ColumnText → List ℕ
 text_of (answer.Limits product) columns = check_text product
 text_of (answer.Report product report) columns = report_text product report columns
@@ -80,6 +86,7 @@ text_of (answer.File text) columns = text.items
 text_of (answer.Refused why) columns = line_of why
 text_of (answer.Changes old new changes) columns = changes_text old new changes
 text_of (answer.Audit product eps audited) columns = audit_text product eps audited
+text_of (answer.Portfolio totals) columns = totals_text totals columns
 
 -- a refusal has a line: the number that it tells is not too large for it
 abbrev pub HasLine : Refusal → Type 0
@@ -91,6 +98,7 @@ HasLine (refusal.Derived found) = ⊤
 HasLine (refusal.Join broken) = ⊤
 HasLine (refusal.Compare broken) = ⊤
 HasLine (refusal.Row broken) = ⊤
+HasLine (refusal.Policy broken) = ⊤
 
 -- the answer has a text
 abbrev pub IsPrintable : Answer → Type 0
@@ -101,6 +109,7 @@ IsPrintable (answer.File text) = ⊤
 IsPrintable (answer.Refused why) = HasLine why
 IsPrintable (answer.Changes old new changes) = HaveText old changes
 IsPrintable (answer.Audit product eps audited) = AreAboutStates product audited
+IsPrintable (answer.Portfolio totals) = totals_texts.HaveText totals
 
 -- the answer is a report about the product, and it is right in this sense
 abbrev pub Reports : Product → (Report → Type 0) → Answer → Type 0
@@ -156,6 +165,9 @@ abbrev pub Answers : Case → Answer → Type 0
 Answers NoReading given = given ≡ answer.Refused refusal.Words
 Answers (Generated seed) given = IsGenerated seed given
 Answers (Loaded seed) given = IsLoaded seed given
+Answers (WrongRow broken) given = given ≡ answer.Refused (refusal.Row broken)
+Answers (PolicyRefused broken) given = given ≡ answer.Refused (refusal.Policy broken)
+Answers (SummedUp holdings products) given = AreSummedUp holdings products given
 Answers (FirstRefused cause) given = given ≡ answer.Refused (refusal.First cause)
 Answers (SecondRefused cause) given = given ≡ answer.Refused (refusal.Second cause)
 Answers (Answered asked product) given = AnswersQuestion asked product given

@@ -7,6 +7,7 @@ use crate::end::{End, Extra};
 use crate::refusal::Refusal;
 use basis_compare::{Changes, changes_bytes};
 use claim_audit::{Audited, audit_bytes};
+use portfolio_run::{Totals, totals_bytes};
 use rate_bounds::Admitted;
 use report_columns::Column;
 use reserve_report::{Report, check_bytes, load_bytes, report_bytes};
@@ -29,6 +30,8 @@ pub enum Answer {
     Changes(Admitted, Admitted, Changes),
     /// What is found of claims about a product, to a distance in millionths of a minor unit.
     Audit(Admitted, i128, Audited),
+    /// The totals of a portfolio by group.
+    Portfolio(Totals),
 }
 
 impl Answer {
@@ -44,10 +47,12 @@ impl Answer {
             Answer::Refused(why) => why.end(),
             Answer::Changes(..) => End::Done,
             Answer::Audit(..) => End::Done,
+            Answer::Portfolio(_) => End::Done,
         }
     }
 
-    /// The text that is to be written. Columns are told of the rows of a report, and their texts stand behind it.
+    /// The text that is to be written. Columns are told of the rows of a report, or of the groups of a portfolio, and
+    /// their texts stand behind it.
     pub fn text(
         &self,
         alloc: Global,
@@ -70,6 +75,7 @@ impl Answer {
             Answer::Audit(admitted, eps, audited) => {
                 audit_bytes(alloc, admitted.product(), *eps, audited)
             }
+            Answer::Portfolio(totals) => totals_bytes(alloc, totals, columns),
         }
     }
 
@@ -86,6 +92,7 @@ impl Answer {
             Answer::Refused(_) => (None, Extra::Nothing),
             Answer::Changes(_, _, changes) => (None, Extra::Compare(changes)),
             Answer::Audit(_, _, audited) => (None, Extra::Audit(audited)),
+            Answer::Portfolio(totals) => (None, Extra::Portfolio(totals)),
         }
     }
 }

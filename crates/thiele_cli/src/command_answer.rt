@@ -1,8 +1,9 @@
 // What a command is answered by, before the sink is reached.
 ghost use Rattle.std.specs.Prelude.{◌≡◌, ℕ, ◌++◌, List, [], ◌∷◌, IfOk, OnOk, IsErrOf};
 ghost use Rattle.command_words.specs.Commands.{request_of};
-ghost use Rattle.thiele_cli.specs.Inquiries.{asked_by, HasGoodDates};
-ghost use Rattle.thiele_cli.specs.Questions.{OfFile, OfFiles, asked_of, HasDates, HasDatesOfTwo, IsAskedOf, IsRead};
+ghost use Rattle.thiele_cli.specs.Cases.{IsAskedOf};
+ghost use Rattle.thiele_cli.specs.Inquiries.{asked_by, IsWellAsked};
+ghost use Rattle.thiele_cli.specs.Questions.{OfFile, OfFiles, asked_of, HasDates, HasDatesOfTwo, IsRead};
 ghost use Rattle.thiele_cli.specs.Replies.{IsGenerated, IsPrintable};
 ghost use Rattle.thiele_cli.specs.AskedAnswers.{AnswersAsked};
 
@@ -13,6 +14,7 @@ use crate::fetching::file_verdict;
 use crate::inquiry::{Inquiry, inquiry_of};
 use crate::loading::loaded_answer;
 use crate::pair_question::{PairQuestion, pair_answer};
+use crate::portfolio::portfolio_answer;
 use crate::question::{Question, product_answer};
 use crate::refusal::Refusal;
 use crate::verdict::Verdict;
@@ -33,7 +35,7 @@ fn named_answer<H: Shelf>(
     ensures printable { IfOk result IsPrintable }
     ensures fetched { OnOk result (H.failed shelf.new ≡ H.failed shelf.old) }
     ensures not_fetched { IsErrOf result Fault.Fetch → (file : List ℕ)
-        × IsAskedOf (OfFile question name.now) file × (H.failed shelf.new ≡ H.failed shelf.old ++ file ∷ []) }
+        × IsAskedOf (H.files shelf.old) (OfFile question name.now) file × (H.failed shelf.new ≡ H.failed shelf.old ++ file ∷ []) }
     ensures memory { IsErrOf result Fault.Memory → H.failed shelf.new ≡ H.failed shelf.old }
     ensures files { H.files shelf.new ≡ H.files shelf.old }
 {
@@ -56,7 +58,7 @@ fn two_named_answer<H: Shelf>(
     ensures printable { IfOk result IsPrintable }
     ensures fetched { OnOk result (H.failed shelf.new ≡ H.failed shelf.old) }
     ensures not_fetched { IsErrOf result Fault.Fetch → (file : List ℕ)
-        × IsAskedOf (OfFiles question first.now second.now) file
+        × IsAskedOf (H.files shelf.old) (OfFiles question first.now second.now) file
         × (H.failed shelf.new ≡ H.failed shelf.old ++ file ∷ []) }
     ensures memory { IsErrOf result Fault.Memory → H.failed shelf.new ≡ H.failed shelf.old }
     ensures files { H.files shelf.new ≡ H.files shelf.old }
@@ -85,11 +87,11 @@ fn inquiry_answer<H: Shelf>(
     inquiry: Inquiry<'_>,
     shelf: &mut H,
 ) -> Result<Answer, Fault>
-    requires { HasGoodDates (asked_by inquiry) }
+    requires { IsWellAsked (asked_by inquiry) }
     ensures answer { IfOk result (AnswersAsked (H.files shelf.old) (asked_by inquiry.entry)) }
     ensures printable { IfOk result IsPrintable }
     ensures fetched { OnOk result (H.failed shelf.new ≡ H.failed shelf.old) }
-    ensures not_fetched { IsErrOf result Fault.Fetch → (file : List ℕ) × IsAskedOf (asked_by inquiry.entry) file
+    ensures not_fetched { IsErrOf result Fault.Fetch → (file : List ℕ) × IsAskedOf (H.files shelf.old) (asked_by inquiry.entry) file
         × (H.failed shelf.new ≡ H.failed shelf.old ++ file ∷ []) }
     ensures memory { IsErrOf result Fault.Memory → H.failed shelf.new ≡ H.failed shelf.old }
     ensures files { H.files shelf.new ≡ H.files shelf.old }
@@ -101,6 +103,8 @@ fn inquiry_answer<H: Shelf>(
         }
         Inquiry::OfSeed(seed) => Ok(seed_answer(alloc, seed)?),
         Inquiry::LoadOf(seed) => Ok(loaded_answer(alloc, seed)?),
+        Inquiry::OfClaims(name, claims, eps) => claims_answer(alloc, eps, name, claims, shelf),
+        Inquiry::OfPortfolio(csv) => portfolio_answer(alloc, csv, shelf),
     }
 }
 
@@ -115,7 +119,7 @@ pub fn command_answer<H: Shelf>(
     ensures printable { IfOk result IsPrintable }
     ensures fetched { OnOk result (H.failed shelf.new ≡ H.failed shelf.old) }
     ensures not_fetched { IsErrOf result Fault.Fetch →
-        (file : List ℕ) × IsAskedOf (asked_of (request_of command.entry)) file
+        (file : List ℕ) × IsAskedOf (H.files shelf.old) (asked_of (request_of command.entry)) file
         × (H.failed shelf.new ≡ H.failed shelf.old ++ file ∷ []) }
     ensures memory { IsErrOf result Fault.Memory → H.failed shelf.new ≡ H.failed shelf.old }
     ensures files { H.files shelf.new ≡ H.files shelf.old }

@@ -3,9 +3,11 @@ ghost use Rattle.std.specs.Prelude.{◌≡◌};
 ghost use Rattle.thiele_cli.specs.Ends.{status_of};
 
 use crate::file_break::FileBreak;
+use crate::policy_break::PolicyBreak;
 use basis_compare::{Changes, CompareBreak};
 use claim_audit::Audited;
 use joint_life::JoinBreak;
+use portfolio_run::Totals;
 use reserve_report::Report;
 use rule_breaks::{RowBreak, RuleBreak};
 
@@ -40,6 +42,8 @@ pub enum End {
     Compare(CompareBreak),
     /// This row of the table of the command is the first that is wrong, and this its first wrong part.
     Row(RowBreak),
+    /// This product file of the portfolio is the first that is refused.
+    Policy(PolicyBreak),
 }
 
 impl End {
@@ -62,6 +66,7 @@ impl End {
             End::Derived(_) => 13,
             End::Compare(_) => 16,
             End::Row(_) => 14,
+            End::Policy(_) => 15,
         }
     }
 }
@@ -75,6 +80,8 @@ pub enum Extra {
     Compare(Changes),
     /// What is found of each claim, by `audit`.
     Audit(Audited),
+    /// The totals of a portfolio by group, by `portfolio`.
+    Portfolio(Totals),
 }
 
 /// What a run answers: its end with its exit status, and the report where one was to be written, or what else was.

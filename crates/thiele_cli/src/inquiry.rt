@@ -1,7 +1,7 @@
 // What a command asks, and of which files or seed.
 ghost use Rattle.std.specs.Prelude.{◌≡◌};
 ghost use Rattle.command_words.specs.Commands.{request_of};
-ghost use Rattle.thiele_cli.specs.Inquiries.{asked_by, HasGoodDates};
+ghost use Rattle.thiele_cli.specs.Inquiries.{asked_by, IsWellAsked};
 ghost use Rattle.thiele_cli.specs.Questions.{asked_of, IsRead};
 
 use crate::pair_question::PairQuestion;
@@ -19,13 +19,17 @@ pub enum Inquiry<'a> {
     OfSeed(u64),
     /// The reserves of its product.
     LoadOf(u64),
+    /// Which claims of a file are at most so many millionths away from the reserves of a product.
+    OfClaims(&'a str, &'a str, i128),
+    /// The totals of a portfolio.
+    OfPortfolio(&'a str),
 }
 
 /// What a command asks.
 pub fn inquiry_of(command: Command<'_>) -> Inquiry<'_>
     requires { IsRead (request_of command) }
     ensures asked { asked_by result ≡ asked_of (request_of command.entry) }
-    ensures dates { HasGoodDates (asked_by result) }
+    ensures well { IsWellAsked (asked_by result) }
 {
     match command {
         Command::Check(name) => Inquiry::OfFile(Question::Limits, name),
@@ -41,5 +45,7 @@ pub fn inquiry_of(command: Command<'_>) -> Inquiry<'_>
         Command::Compare(first, second, every) => {
             Inquiry::OfFiles(PairQuestion::Changes(every), first, second)
         }
+        Command::Audit(name, claims, eps) => Inquiry::OfClaims(name, claims, eps),
+        Command::Portfolio(csv) => Inquiry::OfPortfolio(csv),
     }
 }

@@ -14,6 +14,8 @@ mod joining;
 mod loading;
 mod pair_question;
 mod pieces;
+mod policy_break;
+mod portfolio;
 mod question;
 mod refusal;
 mod run;

@@ -5,6 +5,7 @@ ghost use Rattle.thiele_cli.specs.Replies.{HasLine};
 
 use crate::end::End;
 use crate::file_break::{FileBreak, push_rule};
+use crate::policy_break::PolicyBreak;
 use basis_compare::CompareBreak;
 use decimal_out::{push_millionths, push_whole};
 use fixed_num::scale_floor;
@@ -31,6 +32,8 @@ pub enum Refusal {
     Compare(CompareBreak),
     /// This row of the table of the command is the first that is wrong, and this its first wrong part.
     Row(RowBreak),
+    /// This product file of the portfolio is the first that is refused.
+    Policy(PolicyBreak),
 }
 
 /// The line that refuses a file, with these words before the cause.
@@ -102,6 +105,7 @@ impl Refusal {
             Refusal::Derived(found) => End::Derived(found),
             Refusal::Compare(broken) => End::Compare(broken),
             Refusal::Row(broken) => End::Row(broken),
+            Refusal::Policy(broken) => End::Policy(broken),
         }
     }
 
@@ -119,6 +123,7 @@ impl Refusal {
             Refusal::Derived(found) => derived_text(alloc, found),
             Refusal::Compare(broken) => part_text(alloc, b"refused compare part ", broken.part),
             Refusal::Row(broken) => row_text(alloc, broken),
+            Refusal::Policy(broken) => broken.line(alloc),
         }
     }
 }

@@ -3,7 +3,8 @@ ghost use Rattle.std.specs.Prelude.{◌≡◌, ◌≢◌, ◌⊎◌, ℕ, IsSome
 ghost use Rattle.io_ports.specs.Counts.{Rose};
 ghost use Rattle.command_words.specs.Readings.{words_of, HaveReading};
 ghost use Rattle.report_columns.specs.Columns.{columns_of};
-ghost use Rattle.thiele_cli.specs.Questions.{AreOfSeed, AskAbout};
+ghost use Rattle.thiele_cli.specs.Cases.{AskAbout};
+ghost use Rattle.thiele_cli.specs.Questions.{AreOfSeed};
 ghost use Rattle.thiele_cli.specs.Replies.{end_of, report_of, extra_of};
 ghost use Rattle.thiele_cli.specs.Ends.{ComesBy, IsExtra, IsFault, LeadTo};
 ghost use Rattle.thiele_cli.specs.Ends.{LeadToExtra, LeadToReport, NotesFailure, status_of};
@@ -65,8 +66,10 @@ pub fn run<H: Shelf, K: Sink>(
     ensures seeds { (seed : ℕ) → AreOfSeed (words_of words.now) seed →
         (result.end ≡ End.Done) ⊎ (result.end ≡ End.Memory) ⊎ (result.end ≡ End.WriteFault) }
 
-    // A fetch fault comes exactly where the list of failed names grew, and it grew by a file that the words name.
-    ensures failed { NotesFailure (AskAbout (words_of words.now)) result.end (H.failed shelf.old) (H.failed shelf.new) }
+    // A fetch fault comes exactly where the list of failed names grew, and it grew by a file that the words name, or the
+    // holdings of the portfolio that they name.
+    ensures failed { NotesFailure (AskAbout (H.files shelf.old) (words_of words.now)) result.end
+        (H.failed shelf.old) (H.failed shelf.new) }
 
     // A fault of the sink comes only where its count rose, and no other end leaves it changed.
     ensures write_fault { result.end ≡ End.WriteFault → Rose (K.faults sink.old) (K.faults sink.new) }

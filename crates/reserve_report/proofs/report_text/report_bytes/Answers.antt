@@ -1,5 +1,5 @@
 use Rattle.std.proofs.lemmas.Result.{err_from_is_err_and}
-use Rattle.reserve_report.proofs.ToldRows.{first_of_same, all_of_same, sections_below}
+use Rattle.report_columns.proofs.ToldRows.{first_of_same, all_of_same, sections_below}
 use Rattle.reserve_report.proofs.report_text.report_bytes.Goals as goal
 
 pub returns-in_err-tell_rows-clause-err : goal.returns-in_err-tell_rows-clause-err

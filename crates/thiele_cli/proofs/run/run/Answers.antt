@@ -102,7 +102,7 @@ returns-in_default-clause-seeds g c seed read = absurd (c.in_default.ensures.non
 pub returns-in-Err-Fetch-clause-seeds : goal.returns-in-Err-Fetch-clause-seeds
 returns-in-Err-Fetch-clause-seeds g c seed read =
     let file = c.in-Err-Fetch.ensures.not_fetched (ap (λ e. Err e) c.in-Err-Fetch.field-0-is) in
-    absurd (no_file_of_seed _ (request_of c.in-Some.command) seed file.0 c.in-Some.ensures.some file.1 read)
+    absurd (no_file_of_seed _ _ (request_of c.in-Some.command) seed file.0 c.in-Some.ensures.some file.1 read)
 
 pub returns-in-Ok-text-clause-seeds : goal.returns-in-Ok-text-clause-seeds
 returns-in-Ok-text-clause-seeds g c seed read =

@@ -1,4 +1,4 @@
--- Columns that were told of the rows of a report.
+-- Columns that were told of rows, and stand below a text.
 use Rattle.std.proofs.Common.{◌≡◌, ℕ, List, ◌++◌, ◌∙◌, ap, subst}
 use Rattle.report_columns.specs.declared.note.Note.{Note}
 use Rattle.report_columns.specs.Columns.{ColumnText, all_told, column_sections, columns_of, AreToldFirst}

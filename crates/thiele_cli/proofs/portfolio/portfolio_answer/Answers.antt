@@ -1,0 +1,25 @@
+use Rattle.std.proofs.Common.{subst}
+use Rattle.std.proofs.lemmas.Result.{IfOk-weaker}
+use Rattle.thiele_cli.specs.AskedAnswers.{AnswersAsked}
+use Rattle.thiele_cli.specs.Fetches.{IsFetched}
+use Rattle.thiele_cli.specs.PortfolioFiles.{AnswersText}
+use Rattle.thiele_cli.specs.Questions.{OfPortfolio}
+use Rattle.thiele_cli.proofs.Portfolios.{text_is_asked, too_long}
+use Rattle.thiele_cli.proofs.portfolio.portfolio_answer.Goals as goal
+
+pub returns-in-Bytes-clause-answer : goal.returns-in-Bytes-clause-answer
+returns-in-Bytes-clause-answer g c =
+    let files = g.H.Shelf.files c.args.shelf.now in
+    let given = g.H.Shelf.files c.fetch_file.new.shelf in
+    IfOk-weaker c.text_answer.result (AnswersText given c.deref.result.now)
+    (AnswersAsked files (OfPortfolio c.args.name.now))
+    (λ answer says. text_is_asked given files c.args.name.now c.in-Bytes.text.items c.deref.result.now answer
+    c.fetch_file.ensures.files c.deref.ensures.value
+    (subst (IsFetched files c.args.name.now) c.in-Bytes.is c.in_ok-text.ensures.fetched) says)
+    c.text_answer.ensures.answer
+
+pub returns-in-TooLong-clause-answer : goal.returns-in-TooLong-clause-answer
+returns-in-TooLong-clause-answer g c =
+    let files = g.H.Shelf.files c.args.shelf.now in
+    too_long files c.args.name.now c.in-TooLong.seen
+    (subst (IsFetched files c.args.name.now) c.in-TooLong.is c.in_ok-text.ensures.fetched)
