@@ -7,7 +7,7 @@ use Rattle.portfolio_run.specs.Values.{IsValued}
 use Rattle.thiele_cli.specs.declared.answer.Answer.{Answer}
 use Rattle.thiele_cli.specs.declared.file_break.FileBreak.{FileBreak}
 use Rattle.thiele_cli.specs.declared.policy_break.PolicyBreak.{PolicyBreak}
-use Rattle.thiele_cli.specs.Cases.{Files, HasFault, HasProduct, Case, IsTextCase}
+use Rattle.thiele_cli.specs.Cases.{Files, HasFault, HasProduct, Case, IsPoliciesCase}
 use Rattle.thiele_cli.specs.Portfolios.{AreProductsOf, ComeTo, IsFirstRefused}
 use Rattle.thiele_cli.specs.Replies.{Answers}
 
@@ -42,4 +42,4 @@ IsLast files old new (Some broken) =
 
 -- the answer to the text of a portfolio
 abbrev pub AnswersText : Files → (text : List ℕ) → Answer → Type 0
-AnswersText files text given = (case : Case) × IsTextCase files text case × Answers case given
+AnswersText files text given = (case : Case) × IsPoliciesCase files text case × Answers case given

@@ -2,7 +2,8 @@
 ghost use Rattle.std.specs.Prelude.{◌≡◌, ◌<◌, ℕ, ◌++◌, List, [], ◌∷◌, IfOk, OnOk, IsErrOf};
 ghost use Rattle.thiele_cli.specs.AskedAnswers.{AnswersAsked};
 ghost use Rattle.thiele_cli.specs.Audits.{AnswersAudit, IsDistance};
-ghost use Rattle.thiele_cli.specs.Questions.{OfClaims, IsAskedOf};
+ghost use Rattle.thiele_cli.specs.Cases.{IsAskedOf};
+ghost use Rattle.thiele_cli.specs.Questions.{OfClaims};
 ghost use Rattle.thiele_cli.specs.Replies.{IsPrintable};
 
 use crate::answer::Answer;
@@ -70,7 +71,8 @@ pub fn claims_answer<H: Shelf>(
     ensures printable { IfOk result IsPrintable }
     ensures fetched { OnOk result (H.failed shelf.new ≡ H.failed shelf.old) }
     ensures not_fetched { IsErrOf result Fault.Fetch → (file : List ℕ)
-        × IsAskedOf (OfClaims name.now claims.now eps) file × (H.failed shelf.new ≡ H.failed shelf.old ++ file ∷ []) }
+        × IsAskedOf (H.files shelf.old) (OfClaims name.now claims.now eps) file
+        × (H.failed shelf.new ≡ H.failed shelf.old ++ file ∷ []) }
     ensures memory { IsErrOf result Fault.Memory → H.failed shelf.new ≡ H.failed shelf.old }
     ensures files { H.files shelf.new ≡ H.files shelf.old }
 {
