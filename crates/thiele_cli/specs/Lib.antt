@@ -1,5 +1,6 @@
 pub mod AskedAnswers
 pub mod Audits
+pub mod BasesBetween
 pub mod Cases
 pub mod Comparisons
 pub mod Ends
