@@ -7,8 +7,8 @@ use Rattle.thiele_cli.specs.declared.question.Question.TheVariants as question
 use Rattle.thiele_cli.specs.declared.pair_question.PairQuestion.{PairQuestion}
 use Rattle.thiele_cli.specs.declared.pair_question.PairQuestion.TheVariants as pair_question
 
--- what is asked: something of the file with this name, something of two files, the product file of a seed, or the totals
--- of the portfolio in a file with this name
+-- what is asked: something of the file with this name, something of two files, the product file of a seed, or the
+-- totals of the portfolio in a file with this name
 pub data Asked : Type 0 where
   OfFile : Question → List ℕ → Asked
   OfFiles : PairQuestion → List ℕ → List ℕ → Asked
