@@ -1,12 +1,12 @@
 -- The different files of holdings: they are texts, and no more than holdings.
-use Rattle.std.proofs.Common.{◌≡◌, ℕ, zero, suc, ◌+◌, ◌<◌, ◌≤◌, Bool, true, false, cond, List, [], ◌∷◌, ◌++◌, length, map}
-use Rattle.std.proofs.Common.{get_or, refl, sym, ap, subst, arith}
+use Rattle.std.proofs.Common.{ℕ, suc, ◌+◌, ◌<◌, ◌≤◌, Bool, true, false, cond, List, [], ◌∷◌, ◌++◌, length, map}
+use Rattle.std.proofs.Common.{sym, subst, arith}
 use Rattle.std.specs.Prelude.{All, IsUtf8, fold}
 use Rattle.std.proofs.lemmas.List.{get_or-map, length-map, length_push}
 use Rattle.std.proofs.lemmas.List.Elements.{All-nil, All-push}
 use Rattle.portfolio_run.specs.Holdings.{Holding}
 use Rattle.portfolio_run.specs.Names.{first_seen, is_among, with_name}
-use Rattle.portfolio_run.specs.Readings.{AreHoldingsIn, files_of, groups_of, holding_at}
+use Rattle.portfolio_run.specs.Readings.{AreHoldingsIn, files_of, groups_of}
 use Rattle.portfolio_run.proofs.RecordCounts.{records_are_few}
 
 -- ---- different names

@@ -1,6 +1,6 @@
 -- A CSV text has one list of holdings, or one first wrong row.
-use Rattle.std.proofs.Common.{◌≡◌, ◌≢◌, ℕ, zero, suc, ◌+◌, ◌-◌, ◌<◌, ◌≤◌, List, [], ◌∷◌, length, take, get_or, inl, inr}
-use Rattle.std.proofs.Common.{refl, sym, ap, subst, ◌∙◌, arith, min}
+use Rattle.std.proofs.Common.{◌≡◌, ℕ, ◌+◌, ◌-◌, ◌<◌, ◌≤◌, List, [], ◌∷◌, length, take, inl, inr}
+use Rattle.std.proofs.Common.{refl, sym, ap, subst, ◌∙◌, arith}
 use Rattle.std.specs.Prelude.{Option, Some, None, IsSome}
 use Rattle.std.proofs.lemmas.List.{ext_get_or, get_or-take, length-take, take_all}
 use Rattle.csv.specs.declared.parser.Config.{Config}
@@ -13,7 +13,7 @@ use Rattle.portfolio_run.specs.declared.fields.Fault.TheVariants as fault
 use Rattle.portfolio_run.specs.declared.reading.PolicyError.TheVariants as error
 use Rattle.rule_breaks.specs.declared.breaks.RowBreak.{RowBreak}
 use Rattle.portfolio_run.specs.Holdings.{Holding, part_of, AreRight, FieldsHaveFault, HasFault, IsHolding}
-use Rattle.portfolio_run.specs.Readings.{AreHoldings, AreHoldingsIn, BeginWith, HaveHeader, IsFirstFault, IsFirstWrong}
+use Rattle.portfolio_run.specs.Readings.{AreHoldings, AreHoldingsIn, BeginWith, IsFirstFault, IsFirstWrong}
 use Rattle.portfolio_run.specs.Readings.{TellsWrongIn, files_of, holding_at}
 
 -- ---- records

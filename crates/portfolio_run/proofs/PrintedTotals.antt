@@ -1,11 +1,9 @@
 -- The totals of holdings as they are kept have a text.
-use Rattle.std.proofs.Common.{◌≡◌, ℕ, ◌+◌, ◌*◌, ◌^◌, ◌<◌, ◌≤◌, ℤ, ◌≤ℤ◌, List, length, get_or, refl, sym, ap, ◌∙◌, arith}
+use Rattle.std.proofs.Common.{◌≡◌, ℕ, ◌≤◌, ℤ, ◌≤ℤ◌, List, length, get_or, sym, ap, ◌∙◌, arith}
 use Rattle.std.proofs.lemmas.List.{length-map}
-use Rattle.std.specs.Prelude.{unsigned_abs}
-use Rattle.frac_laws.specs.Fraction.{Fraction, whole}
+use Rattle.frac_laws.specs.Fraction.{Fraction}
 use Rattle.frac_laws.proofs.Order.{le_trans}
 use Rattle.frac_laws.proofs.Quotients.{le_of_whole}
-use Rattle.fixed_interval.specs.declared.printed.Printed.{Printed}
 use Rattle.fixed_interval.specs.Printing.{LiesBetween}
 use Rattle.named_numbers.specs.Numbers.{least_degree}
 use Rattle.portfolio_run.specs.declared.policies.Policy.{Policy}

@@ -1,5 +1,5 @@
 -- The lines and the notes of groups, one more.
-use Rattle.std.proofs.Common.{◌≡◌, ℕ, zero, suc, ◌+◌, ◌<◌, List, [], ◌∷◌, ◌++◌, length, take, get_or, ap, sym, ◌∙◌, arith}
+use Rattle.std.proofs.Common.{◌≡◌, ℕ, suc, ◌+◌, ◌<◌, List, [], ◌∷◌, ◌++◌, length, take, get_or, ap, sym, ◌∙◌, arith}
 use Rattle.std.proofs.Common.{append_assoc, append-nil}
 use Rattle.std.specs.Prelude.{All}
 use Rattle.std.proofs.lemmas.List.{take_more, length-take}
@@ -40,7 +40,8 @@ notes_more groups i none inside =
     ∙ ap (λ n. notes_from 0 (take i groups) ++ note_of n (get_or groups i none) ∷ []) count
 
 -- the notes of groups have ends that a column can print
-pub notes_have_ends : (start : ℕ) (groups : List Total) → All HasTotalEnds groups → All HasEnds (notes_from start groups)
+pub notes_have_ends : (start : ℕ) (groups : List Total) → All HasTotalEnds groups
+    → All HasEnds (notes_from start groups)
 notes_have_ends start [] all = All-nil HasEnds
 notes_have_ends start (first ∷ groups) all =
     let own = all 0 first (omega arith) in

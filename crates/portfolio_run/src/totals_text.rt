@@ -1,5 +1,5 @@
 // The text of the totals of a portfolio.
-ghost use Rattle.std.specs.Prelude.{◌≡◌, ◌++◌, ◌<◌, ◌^◌, All, length, OnOk, OnErr, IfOk};
+ghost use Rattle.std.specs.Prelude.{◌≡◌, ◌++◌, ◌<◌, ◌^◌, length, OnOk, OnErr, IfOk};
 ghost use Rattle.report_columns.specs.Columns.{all_told, columns_of, AreToldFirst};
 ghost use Rattle.portfolio_run.specs.TotalsText.{counted, group_line, group_lines, groups_text, head_lines};
 ghost use Rattle.portfolio_run.specs.TotalsText.{notes_from, notes_of, total_ends, totals_text, HaveText};

@@ -1,5 +1,5 @@
 -- From the product files of a portfolio to its answer.
-use Rattle.std.proofs.Common.{◌≡◌, ℕ, zero, suc, ◌+◌, ◌<◌, ◌≤◌, List, [], ◌∷◌, ◌++◌, length, map, take, get_or, inl, inr}
+use Rattle.std.proofs.Common.{◌≡◌, ℕ, zero, suc, ◌+◌, ◌<◌, List, [], ◌∷◌, ◌++◌, length, map, take, get_or, inl, inr}
 use Rattle.std.proofs.Common.{refl, sym, ap, subst, ◌∙◌, arith}
 use Rattle.std.specs.Prelude.{All, Option, Some, None, Vec}
 use Rattle.std.specs.declared.alloc.Global.{Global}
@@ -14,7 +14,7 @@ use Rattle.portfolio_run.specs.declared.totals.Totals.{Totals}
 use Rattle.portfolio_run.specs.Readings.{AreHoldingsIn, TellsWrongIn, files_of}
 use Rattle.portfolio_run.specs.Stored.{AddsValued, Portfolio, name_at}
 use Rattle.portfolio_run.specs.Totals.{AreTotals, TellsUncovered}
-use Rattle.portfolio_run.specs.Values.{IsValued, ValuedProduct}
+use Rattle.portfolio_run.specs.Values.{IsValued}
 use Rattle.thiele_cli.specs.declared.answer.Answer.TheVariants as answer
 use Rattle.thiele_cli.specs.declared.file_break.FileBreak.{FileBreak}
 use Rattle.thiele_cli.specs.declared.policy_break.PolicyBreak.{PolicyBreak}
@@ -26,7 +26,7 @@ use Rattle.thiele_cli.specs.Cases.{Files, AreBytesOf, HasFault, HasProduct}
 use Rattle.thiele_cli.specs.Cases.{FirstRefused, WrongRow, PolicyRefused, SummedUp}
 use Rattle.thiele_cli.specs.Questions.{OfPortfolio}
 use Rattle.thiele_cli.specs.PortfolioFiles.{AnswersText, AreAllValued, AreValued, IsNext, next_name}
-use Rattle.thiele_cli.specs.Portfolios.{AreProductsOf, ComeTo, IsFirstRefused}
+use Rattle.thiele_cli.specs.Portfolios.{ComeTo, IsFirstRefused}
 
 -- ---- names and products
 
@@ -84,7 +84,8 @@ valued_more files old new product inside are has adds =
     ap length adds.valued ∙ length_push old.valued adds.added in
     let more : take (length old.valued + 1) names ≡ take (length old.valued) names ++ next_name old ∷ [] =
     take_more names (length old.valued) [] inside in
-    let first : take (length new.valued) (files_of new.holdings) ≡ take (length old.valued) names ++ next_name old ∷ [] =
+    let first : take (length new.valued) (files_of new.holdings)
+    ≡ take (length old.valued) names ++ next_name old ∷ [] =
     ap (λ n. take n (files_of new.holdings)) count
     ∙ ap (λ h. take (length old.valued + 1) (files_of h)) adds.holdings ∙ more in
     record {

@@ -52,8 +52,8 @@ pub record IsUncoveredRow (holdings : List Holding) (products : List Product) (b
   pub products_are : AreProductsOf valued products
   pub tells : TellsUncovered (portfolio_of holdings valued) (error.Row broken)
 
--- the answer is the totals of the holdings by group, by the products of their different files: each valued by a table of
--- the reserves of every month
+-- the answer is the totals of the holdings by group, by the products of their different files: each valued by a table
+-- of the reserves of every month
 pub record AreSummedUp (holdings : List Holding) (products : List Product) (given : Answer) : Type 0 where
   pub totals : Totals
   pub answers : given ≡ answer.Portfolio totals

@@ -35,7 +35,8 @@ fn named_answer<H: Shelf>(
     ensures printable { IfOk result IsPrintable }
     ensures fetched { OnOk result (H.failed shelf.new ≡ H.failed shelf.old) }
     ensures not_fetched { IsErrOf result Fault.Fetch → (file : List ℕ)
-        × IsAskedOf (H.files shelf.old) (OfFile question name.now) file × (H.failed shelf.new ≡ H.failed shelf.old ++ file ∷ []) }
+        × IsAskedOf (H.files shelf.old) (OfFile question name.now) file
+        × (H.failed shelf.new ≡ H.failed shelf.old ++ file ∷ []) }
     ensures memory { IsErrOf result Fault.Memory → H.failed shelf.new ≡ H.failed shelf.old }
     ensures files { H.files shelf.new ≡ H.files shelf.old }
 {

@@ -1,5 +1,5 @@
 // The totals of a portfolio, as an answer. Its product files are fetched, read and valued one after the other.
-ghost use Rattle.std.specs.Prelude.{◌≡◌, ◌<◌, ◌≤◌, ◌^◌, ℕ, ◌++◌, List, [], ◌∷◌, All, Contains, length, IsUtf8};
+ghost use Rattle.std.specs.Prelude.{◌≡◌, ◌<◌, ◌≤◌, ℕ, ◌++◌, List, [], ◌∷◌, All, Contains, length, IsUtf8};
 ghost use Rattle.std.specs.Prelude.{IfOk, OnOk, IsErrOf};
 ghost use Rattle.portfolio_run.specs.Readings.{files_of};
 ghost use Rattle.portfolio_run.specs.Stored.{most_bytes, AddsValued};

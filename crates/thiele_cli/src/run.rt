@@ -66,8 +66,8 @@ pub fn run<H: Shelf, K: Sink>(
     ensures seeds { (seed : ℕ) → AreOfSeed (words_of words.now) seed →
         (result.end ≡ End.Done) ⊎ (result.end ≡ End.Memory) ⊎ (result.end ≡ End.WriteFault) }
 
-    // A fetch fault comes exactly where the list of failed names grew, and it grew by a file that the words name, or the
-    // holdings of the portfolio that they name.
+    // A fetch fault comes exactly where the list of failed names grew, and it grew by a file that the words name, or
+    // the holdings of the portfolio that they name.
     ensures failed { NotesFailure (AskAbout (H.files shelf.old) (words_of words.now)) result.end
         (H.failed shelf.old) (H.failed shelf.new) }
 
