@@ -32,7 +32,8 @@ make first file second distance number =
     else (if first == 97117 then Audit file second distance else (if first == 112111 then Portfolio file
     else Generate number)))))))))))
 
--- where its number stands: the second word where there is a seed, the third or fourth of requests at dates, and else nowhere
+-- where its number stands: the second word where there is a seed, the third or fourth of requests at dates, and else
+-- nowhere
 abbrev text : ℕ → List (List ℕ) → List ℕ
 text first words =
     if first == 114101 then word-at 2 words else (if first == 111099 then word-at 2 words

@@ -3,11 +3,8 @@ use Rattle.std.proofs.Common.{◌≡◌, ℕ, ◌+◌, ◌-◌, ◌<◌, ◌≤�
 use Rattle.std.proofs.Common.{refl, sym, ap, subst, ◌∙◌, arith}
 use Rattle.std.specs.Prelude.{Option, Some, None, IsSome}
 use Rattle.std.proofs.lemmas.List.{ext_get_or, get_or-take, length-take, take_all}
-use Rattle.csv.specs.declared.parser.Config.{Config}
-use Rattle.csv.specs.declared.parser.State.{State}
-use Rattle.csv.specs.Machine.{next_record}
-use Rattle.csv.specs.Reading.{Reached}
 use Rattle.claim_audit.specs.Readings.{AreRecordsOf, record_at}
+use Rattle.claim_audit.proofs.OneReading.{one_records}
 use Rattle.portfolio_run.specs.declared.fields.Fault.{Fault}
 use Rattle.portfolio_run.specs.declared.fields.Fault.TheVariants as fault
 use Rattle.portfolio_run.specs.declared.reading.PolicyError.TheVariants as error
@@ -15,25 +12,6 @@ use Rattle.rule_breaks.specs.declared.breaks.RowBreak.{RowBreak}
 use Rattle.portfolio_run.specs.Holdings.{Holding, part_of, AreRight, FieldsHaveFault, HasFault, IsHolding}
 use Rattle.portfolio_run.specs.Readings.{AreHoldings, AreHoldingsIn, BeginWith, IsFirstFault, IsFirstWrong}
 use Rattle.portfolio_run.specs.Readings.{TellsWrongIn, files_of, holding_at}
-
--- ---- records
-
-records_from : (cfg : Config) (s t u : State) (xs ys zs : List ℕ) (a b : List (List (List ℕ))) → Reached cfg s xs a t ys
-    → next_record cfg t [] [] ys ≡ None → Reached cfg s xs b u zs → next_record cfg u [] [] zs ≡ None → a ≡ b
-unfolding Reached
-records_from cfg s t u xs ys zs [] [] x no_more y no_other = refl
-records_from cfg s t u xs ys zs [] (r ∷ rs) x no_more y no_other = cc (x.0, x.1, no_more, y.1)
-records_from cfg s t u xs ys zs (r ∷ rs) [] x no_more y no_other = cc (y.0, y.1, no_other, x.1)
-records_from cfg s t u xs ys zs (q ∷ qs) (r ∷ rs) x no_more y no_other =
-    let same : x.0 ≡ y.0 = cc (x.1, y.1) in
-    let rest : qs ≡ rs = records_from cfg y.0.1 t u y.0.2 ys zs qs rs
-    (subst (λ p. Reached cfg p.1 p.2 qs t ys) same x.3) no_more y.3 no_other in
-    let first : q ≡ r = cc (x.2, y.2, same) in
-    λ k. first k ∷ rest k
-
--- a text has one list of records
-pub one_records : (text : List ℕ) (a b : List (List (List ℕ))) → AreRecordsOf text a → AreRecordsOf text b → a ≡ b
-one_records text a b x y = records_from _ _ x.0 y.0 _ x.1 y.1 a b x.2 x.3 y.2 y.3
 
 -- ---- a record
 

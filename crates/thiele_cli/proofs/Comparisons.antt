@@ -1,5 +1,5 @@
 -- The answer to a comparison, from what its calls answer.
-use Rattle.std.proofs.Common.{◌≡◌, ℕ, Some, None, inl, inr, refl, ap, sym, subst, ◌∙◌}
+use Rattle.std.proofs.Common.{◌≡◌, ℕ, Some, None, inl, inr, refl, ap, subst, ◌∙◌}
 use Rattle.rule_breaks.specs.Breaks.{break_of}
 use Rattle.rule_breaks.specs.declared.breaks.RuleBreak.{RuleBreak}
 use Rattle.model_specs.specs.Product.{Product}
@@ -8,12 +8,10 @@ use Rattle.basis_compare.specs.declared.change_rows.Changes.{Changes}
 use Rattle.basis_compare.specs.declared.differing.CompareBreak.{CompareBreak}
 use Rattle.basis_compare.specs.Bases.{hybrid_of, first_difference, BreaksAtMostTheLastRule}
 use Rattle.basis_compare.specs.Changes.{AreChanges}
-use Rattle.thiele_cli.specs.declared.answer.Answer.{Answer}
 use Rattle.thiele_cli.specs.declared.answer.Answer.TheVariants as answer
-use Rattle.thiele_cli.specs.declared.comparison.Between.TheVariants as between
 use Rattle.thiele_cli.specs.declared.refusal.Refusal.{Refusal}
 use Rattle.thiele_cli.specs.declared.refusal.Refusal.TheVariants as refusal
-use Rattle.thiele_cli.specs.BasesBetween.{IsBetween, HaveNone, TellsBetween}
+use Rattle.thiele_cli.specs.BasesBetween.{IsBetween, HaveNone}
 use Rattle.thiele_cli.specs.Comparisons.{AnswersComparison}
 
 -- bases that differ are refused

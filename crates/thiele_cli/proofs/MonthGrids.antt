@@ -17,7 +17,8 @@ use Rattle.reserve_report.specs.declared.report.Report.{Report}
 use Rattle.reserve_report.specs.Reports.{IsReport}
 use Rattle.reserve_report.specs.TableRows.{TellsTable, row_at}
 use Rattle.thiele_cli.specs.MonthGrids.{HoldsByMonths, IsReserveReport}
-use Rattle.thiele_cli.proofs.Reported.{valuation_of, at_most}
+use Rattle.ledger_laws.proofs.Rounding.{le_when_same}
+use Rattle.thiele_cli.proofs.Reported.{valuation_of}
 use Rattle.whole_laws.proofs.ListsByPlace.{All-list_of}
 
 -- a place of a table is a date and a state
@@ -62,7 +63,7 @@ pub reserves_are_reported : (product : Product) (report : Report) (t : Table) (e
     → IsReserveReport product every report
 reserves_are_reported product report t every reserves months right tells is constant = record {
   valuation = valuation_of product kind.Reserves report t.every every t.degree reserves.every_is right is
-      (λ all. at_most t.degree least_degree (constant all));
+      (λ all. le_when_same t.degree least_degree (constant all));
   by_months = subst (All (HoldsByMonths product)) (sym tells)
       (All-list_of (HoldsByMonths product) (length t.cells.items) (row_at what.Reserve t)
       (λ place inside. row_holds product every t reserves months place inside));

@@ -18,7 +18,8 @@ use Rattle.thiele_cli.specs.declared.refusal.Refusal.{Refusal}
 use Rattle.thiele_cli.specs.declared.refusal.Refusal.TheVariants as refusal
 use Rattle.thiele_cli.specs.Premiums.{HasClosePremium, ends_of}
 use Rattle.thiele_cli.specs.Replies.{AnswersQuestion, HasLine}
-use Rattle.thiele_cli.proofs.Reported.{valuation_of, at_most}
+use Rattle.ledger_laws.proofs.Rounding.{le_when_same}
+use Rattle.thiele_cli.proofs.Reported.{valuation_of}
 
 -- what the solver answers can be reported
 pub premium_of : (product : Product) (t : PremiumTable) → IsPremiumTable product t → IsPremiumOf product t
@@ -58,7 +59,7 @@ premium_is_reported product t r h right tells constant = inl (
   refl,
   record {
     valuation = valuation_of product kind.Premium r 1 1 t.degree refl right tells.degree
-        (λ all. at_most t.degree least_degree (constant all));
+        (λ all. le_when_same t.degree least_degree (constant all));
     close = close_premium product t r h tells;
   },
 )

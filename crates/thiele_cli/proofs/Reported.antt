@@ -1,5 +1,5 @@
 -- A report of a result is right for the dates that were asked for, and has its degree.
-use Rattle.std.proofs.Common.{◌≡◌, ℕ, ◌≤◌, sym, subst, arith}
+use Rattle.std.proofs.Common.{◌≡◌, ℕ, ◌≤◌, sym, subst}
 use Rattle.fixed_interval.specs.declared.tables.MomentTable.{MomentTable}
 use Rattle.model_specs.specs.Product.{Product}
 use Rattle.model_specs.specs.Payments.{payment_plan}
@@ -20,10 +20,6 @@ valuation_of product kind report dates every degree same right is constant = rec
   is_report = subst (λ months. IsReport product kind months report) same right;
   degree = λ all. subst (λ d. d ≤ constant_degree kind) (sym is) (constant all);
 }
-
--- a degree that is one is at most it
-pub at_most : (degree most : ℕ) → degree ≡ most → degree ≤ most
-at_most degree most is = omega (arith, is)
 
 -- such tables can be reported
 pub moments_of : (product : Product) (every : ℕ) (t : MomentTable) → AreMoments product every t

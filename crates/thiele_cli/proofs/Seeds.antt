@@ -6,7 +6,7 @@ use Rattle.thiele_cli.specs.declared.answer.Answer.{Answer}
 use Rattle.thiele_cli.specs.declared.end.End.{End}
 use Rattle.thiele_cli.specs.declared.end.End.TheVariants as end
 use Rattle.thiele_cli.specs.Questions.{asked_of, AreOfSeed}
-use Rattle.thiele_cli.specs.Cases.{Files, Case, Generated, Loaded, IsAskedCase, IsAskedOf, IsCase}
+use Rattle.thiele_cli.specs.Cases.{Files, Case, IsAskedCase, IsAskedOf, IsCase}
 use Rattle.thiele_cli.specs.Loads.{IsLoaded}
 use Rattle.thiele_cli.specs.Replies.{end_of, Answers, IsGenerated}
 use Rattle.thiele_cli.specs.Ends.{IsAnswer}

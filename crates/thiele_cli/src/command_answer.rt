@@ -92,7 +92,8 @@ fn inquiry_answer<H: Shelf>(
     ensures answer { IfOk result (AnswersAsked (H.files shelf.old) (asked_by inquiry.entry)) }
     ensures printable { IfOk result IsPrintable }
     ensures fetched { OnOk result (H.failed shelf.new ≡ H.failed shelf.old) }
-    ensures not_fetched { IsErrOf result Fault.Fetch → (file : List ℕ) × IsAskedOf (H.files shelf.old) (asked_by inquiry.entry) file
+    ensures not_fetched { IsErrOf result Fault.Fetch → (file : List ℕ)
+        × IsAskedOf (H.files shelf.old) (asked_by inquiry.entry) file
         × (H.failed shelf.new ≡ H.failed shelf.old ++ file ∷ []) }
     ensures memory { IsErrOf result Fault.Memory → H.failed shelf.new ≡ H.failed shelf.old }
     ensures files { H.files shelf.new ≡ H.files shelf.old }
