@@ -1,9 +1,9 @@
 -- A CSV text has one list of holdings, or one first wrong row.
-use Rattle.std.proofs.Common.{◌≡◌, ℕ, ◌+◌, ◌-◌, ◌<◌, ◌≤◌, List, [], ◌∷◌, length, take, inl, inr}
+use Rattle.std.proofs.Common.{◌≡◌, ℕ, ◌+◌, ◌-◌, ◌<◌, ◌≤◌, List, [], length, take, inl, inr}
 use Rattle.std.proofs.Common.{refl, sym, ap, subst, ◌∙◌, arith}
 use Rattle.std.specs.Prelude.{Option, Some, None, IsSome}
 use Rattle.std.proofs.lemmas.List.{ext_get_or, get_or-take, length-take, take_all}
-use Rattle.claim_audit.specs.Readings.{AreRecordsOf, record_at}
+use Rattle.claim_audit.specs.Readings.{record_at}
 use Rattle.claim_audit.proofs.OneReading.{one_records}
 use Rattle.portfolio_run.specs.declared.fields.Fault.{Fault}
 use Rattle.portfolio_run.specs.declared.fields.Fault.TheVariants as fault
