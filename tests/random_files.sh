@@ -12,13 +12,14 @@ if [ ! -x "$program" ]; then
   exit 1
 fi
 exec python3 - "$program" "${1:-20000}" "${2:-1}" <<'PYTHON'
-import concurrent.futures, os, pathlib, random, subprocess, sys, tempfile, tomllib
+import concurrent.futures, csv, os, pathlib, random, subprocess, sys, tempfile, tomllib
 from fractions import Fraction
 
 program, count, seed = sys.argv[1], int(sys.argv[2]), int(sys.argv[3])
 MILLION, BILLION = 10**6, 10**12
 # the texts of refusals, by status
-REFUSALS = {4: "refused length ", 5: "refused toml", 6: "refused rule ", 7: "refused premium low "}
+REFUSALS = {4: "refused length ", 5: "refused toml", 6: "refused rule ", 7: "refused premium low ",
+            14: "refused row "}
 
 
 def table(pairs):
@@ -174,7 +175,7 @@ def dates(months, every):
     return list(range(0, months + 1, every))
 
 
-def check_product(product, limits, ask):
+def check_product(file, product, limits, ask):
     """All commands on a file that breaks no rule; `ask` runs one."""
     told = {tuple(line.split(" ")[:-1]): line.split(" ")[-1] for line in limits.split("\n") if " " in line}
     months, states = product["months"], product["states"]
@@ -200,6 +201,8 @@ def check_product(product, limits, ask):
     check_premium(row, ask)
     check_no_change(months, states, reserves, ask)
     check_upgraded(limits, value, ask)
+    check_audit(reserves, ask)
+    check_portfolio(file, reserves)
     for report in (value, reserves, occupancy):
         check_columns(report, states)
 
@@ -263,9 +266,53 @@ def check_upgraded(limits, value, ask):
     assert told[2] == text, "another text of the upgraded file"
 
 
+def decimal(millionths):
+    """A whole number of millionths as a decimal."""
+    return f"{'-' * (millionths < 0)}{abs(millionths) // MILLION}.{abs(millionths) % MILLION:06}"
+
+
+def table_file(records):
+    """A CSV file with these records."""
+    made = tempfile.NamedTemporaryFile("w", dir=work, suffix=".csv", newline="")
+    csv.writer(made).writerows(records)
+    made.flush()
+    return made
+
+
+def check_audit(reserves, ask):
+    """Claims about the first rows: at an end, too far away, and so far that only one end is near."""
+    rows = [row for row in reserves.rows[:12] if max(-row[3], row[4]) < 10**20]
+    eps = max((row[4] - row[3] for row in rows), default=0)
+    records, wanted = [["month", "state", "reserve"]], []
+    for month, state, _, low, high, _ in rows:
+        for claim, mark in ((low, "yes"), (high + eps + 1, "no"), (high + eps, "undecided" if low < high else "yes")):
+            records.append([month, state, decimal(claim)])
+            wanted.append(f"{month} {state} {decimal(claim)} {decimal(low)} {decimal(high)} {mark}")
+    marks = [line.split(" ")[-1] for line in wanted]
+    wanted.append("end yes %d no %d undecided %d" % tuple(marks.count(mark) for mark in ("yes", "no", "undecided")))
+    with table_file(records) as claims:
+        lines = ask(["audit", claims.name, decimal(eps)]).split("\n")
+    assert lines[1] == f"{' '.join(reserves.head[1].split(' ')[:2])} eps {decimal(eps)}", f"another audit: {lines[1]}"
+    assert lines[2:] == wanted + [""], "other marks"
+
+
+def check_portfolio(file, reserves):
+    """Two contracts of the first row and three of the last one, in a group, and one of the first in another."""
+    held = [("all", reserves.rows[0], 2), ("one", reserves.rows[0], 1), ("all", reserves.rows[-1], 3)]
+    records = [["file", "group", "month", "state", "count"]] + [[file, name, row[0], row[1], count] for name, row, count in held]
+    with table_file(records) as policies:
+        ran = subprocess.run([program, "portfolio", policies.name], capture_output=True, timeout=300)
+    assert ran.returncode == 0 and not ran.stderr, f"status {ran.returncode} of portfolio"
+    wanted = ["portfolio", f"{' '.join(reserves.head[1].split(' ')[:2])} policies 3 groups 2"]
+    for group in ("all", "one"):
+        sums = [sum(count * row[place] for name, row, count in held if name == group) for place in (3, 4, 5)]
+        wanted.append(" ".join([group, *map(decimal, sums)]))
+    assert ran.stdout.decode().split("\n")[:5] == wanted + ["end 2"], "other totals"
+
+
 # the words of each command without its first file; the second is the same
 COMMANDS = [["value"], ["reserves", "7"], ["occupancy", "5"], ["moments", "7"], ["premium"], ["upgrade"],
-            ["compare", "FILE", "7"]]
+            ["compare", "FILE", "7"], ["audit", "FILE", "1"]]
 
 
 def fault(file):
@@ -280,6 +327,7 @@ def fault(file):
             own = REFUSALS.get(ran.returncode)
             assert own and text.startswith(own) and text.count("\n") == 1, f"status {ran.returncode}: {text[:200]}"
             assert ran.returncode != 7 or words[0] == "premium", f"status 7 of {words[0]}"
+            assert ran.returncode != 14 or words[0] == "audit", f"status 14 of {words[0]}"
         else:
             assert text.endswith("\n"), "no line end at the end"
         return text
@@ -294,7 +342,7 @@ def fault(file):
                 for words in COMMANDS:
                     ask(words)
             else:
-                check_product(product, limits, ask)
+                check_product(file, product, limits, ask)
         else:
             for words in COMMANDS:
                 assert ask(words) == limits, f"another refusal by {words[0]} than {limits}"
