@@ -22,7 +22,8 @@ SMALL, LARGE = "examples/flat.toml", "examples/disability.toml"
 COMMANDS = [[word, file, *more] for file in (SMALL, LARGE)
             for word, *more in (["check"], ["value"], ["premium"], ["reserves", "60"], ["occupancy", "60"], ["moments", "60"])]
 COMMANDS += [["upgrade", LARGE], ["join", "examples/annuity-20-years.toml", "examples/annuity.toml"],
-             ["compare", LARGE, "examples/disability-new-basis.toml", "120"], ["generate", "7"], ["no", "such", "words"]]
+             ["compare", LARGE, "examples/disability-new-basis.toml", "120"], ["generate", "7"], ["load", "7"],
+             ["audit", LARGE, "examples/claims.csv", "0.01"], ["portfolio", "examples/policies.csv"], ["no", "such", "words"]]
 
 
 def run(words, **given):

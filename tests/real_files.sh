@@ -63,10 +63,11 @@ head -c 1048576 "$work/long.toml" >"$work/longest.toml"
 
 flat=$'report value flat\ndegree 8 scale 10\n0 on value 383.999999 384.000001 0.000003\nend 1\ncolumn 1\n0 0 0.000002\ncolumn 2\n0 0 +\n'
 flat+=$'column 3\n0,0,value,383.999999,384.000001\n'
-# by hand: each of 38,400 cells rounds 10^12 * 2^16 / 384 up by a third, and the radius is 38,400 * 1024, in units of 2^-16
-largest=$'report value largest\ndegree 8 scale 48\n0 on value 99999999999400.195312 100000000000600.195313 1200.000002\nend 1\n'
+# by hand, in units of 2^-16: one cell pays 10^12 * 2^16 / 384, rounded up by a third, 16 to both sides; the map of its month, whose
+# numbers are rounded outward in five doublings, is taken 1200 times, and the radius is 38,400 * 1024
+largest=$'report value largest\ndegree 8 scale 48\n0 on value 99999999999400.241149 100000000000600.241150 1200.000002\nend 1\n'
 largest+=$'column 1\n0 0 1200.000001\ncolumn 2\n0 0 +\n'
-largest+=$'column 3\n0,0,value,99999999999400.195312,100000000000600.195313\n'
+largest+=$'column 3\n0,0,value,99999999999400.241149,100000000000600.241150\n'
 # 240000 (1 - exp(-1/20)) = 11704.938119828..: the whole millionths around it
 interest=$'report value interest\ndegree 8 scale 15\n0 on value 11704.938119 11704.938120 0.000003\nend 1\n'
 interest+=$'column 1\n0 0 0.000001\ncolumn 2\n0 0 +\ncolumn 3\n0,0,value,11704.938119,11704.938120\n'

@@ -49,11 +49,14 @@ def columns_of(words, rows):
 
 
 def other_reserves(words, rows):
-    """The first moments that are not the same bytes as the reserves of the same dates."""
+    """Whether the first moments and the reserves of the same dates can't both hold one number, or have other tolerances."""
     ran = subprocess.run([program, "reserves", *words[1:]], cwd=folder, capture_output=True, text=True)
     reserves = {(month, state, "first"): ends for (month, state, what), ends in rows_of(ran.stdout.split("\n")).items()}
     first = {row: ends for row, ends in rows.items() if row[2] == "first"}
-    return [] if first == reserves else ["other first moments than the reserves"]
+    both = first.keys() == reserves.keys() and all(
+        Fraction(ends[0]) <= Fraction(reserves[row][1]) and Fraction(reserves[row][0]) <= Fraction(ends[1])
+        and ends[2] == reserves[row][2] for row, ends in first.items())
+    return [] if both else ["other first moments than the reserves"]
 
 
 def faults(words, wanted):
