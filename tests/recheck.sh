@@ -1,6 +1,6 @@
 #!/usr/bin/env bash
-# Has tools/recheck.py check what the built program prints of the products of examples/ and tests/values/, then reports and
-# products with one fault each, which it must find and place. The last line counts what passed and what failed.
+# Has tools/recheck.py check what the built program prints of the products of examples/ and tests/values/, then reports
+# and products with one fault each, which it must find and place. The last line counts what passed and what failed.
 set -u
 cd "$(dirname "$0")/.." || exit 2
 program=$PWD/crates/thiele_cli/out/thiele_cli
@@ -104,7 +104,7 @@ planted("a digit of an upper end", K + 3, file, with_row(K, high=-1000))
 planted("an interval that is moved by its width", K + 3, file, with_row(K, low=width, high=width))
 planted("an interval that is moved the other way", K + 3, file, with_row(K, low=-width, high=-width))
 planted("a wide interval beside the solution", K + 3, file, with_row(K, low=width, high=10**6, tolerance=10**6))
-planted("an interval wider than its tolerance", K + 3, file, with_row(K, low=-2, high=2))
+planted("an interval wider than its tolerance", K + 3, file, with_row(K, low=width - rows[K][4] - 1))
 planted("ends turned round", K + 3, file, with_row(K, low=width, high=-width))
 planted("another sign", K + 3, file, with_row(K, low=-2 * rows[K][2] - width, high=-2 * rows[K][2] - width))
 planted("a reserve at the term", 2 + len(rows), file, with_row(-1, low=1, high=1))
@@ -128,7 +128,8 @@ for name, old, new in [
     ("the count of rows", f"end {len(rows)}", f"end {len(rows) + 1}"),
     ("a width", lines[K + 4 + len(rows)], "100 0 0.000000"),
     ("a sign", "100 0 +", "100 0 -"),
-    ("an end in a column", lines[K + 6 + 3 * len(rows)], f"100,0,reserve,{decimal(rows[K][2] + 1)},{decimal(rows[K][3])}"),
+    ("an end in a column", lines[K + 6 + 3 * len(rows)],
+     f"100,0,reserve,{decimal(rows[K][2] + 1)},{decimal(rows[K][3])}"),
     ("another name", head[0], "report reserves endowment"),
     ("another report", head[0], "report moments disability"),
     ("no scale", head[1], "degree 8"),
@@ -185,11 +186,13 @@ for name, file in [
     ("a key that is unknown", "tests/files/sojourn-with-another-key.toml"),
     ("a lump sum without a month", "tests/files/month-of-a-lump-is-an-array.toml"),
     ("a float", changed("examples/flat.toml", "amount = 384", "amount = 384.0")),
-    ("a lump sum twice", changed("tests/values/lump-at-issue.toml", "lump = [", 'lump = [{ month = 0, state = "on", amount = 1 }, ')),
+    ("a lump sum twice", changed("tests/values/lump-at-issue.toml", "lump = [",
+                                 'lump = [{ month = 0, state = "on", amount = 1 }, ')),
     ("no file", "tests/files/there-is-none.toml"),
 ]:
     status, _, text = recheck(file, right)
-    told(name, "" if status == 2 and text.startswith("recheck: ") else f"wanted status 2, found status {status}: {text}")
+    right_end = status == 2 and text.startswith("recheck: ")
+    told(name, "" if right_end else f"wanted status 2, found status {status}: {text}")
 for name, words in [("no report", [file]), ("EVERY 0", ["examples/flat.toml", "examples/flat.toml", "0"])]:
     ran = subprocess.run([sys.executable, "tools/recheck.py", *words], capture_output=True, text=True)
     told(name, "" if ran.returncode == 2 else f"status {ran.returncode}: {ran.stdout}")

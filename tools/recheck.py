@@ -135,7 +135,7 @@ def check(product, lines, every):
             print(f"line {place}: {line}\n{faults[place] if line == text else 'wanted: ' + (text or 'the end')}")
             return 1
     print(f"solved Thiele's equations within 10^-{len(str(UNIT // (dates[0][1] + 1))) - 1} minor units")
-    print(f"rows {len(asked)}: each holds the solution, its middle is within {decimal(-(-farthest // (2 * UNIT)))} of it")
+    print(f"rows {len(asked)}: each holds the solution, its middle within {decimal(-(-farthest // (2 * UNIT)))} of it")
     return 0
 
 if __name__ == "__main__":
