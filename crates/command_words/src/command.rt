@@ -1,14 +1,6 @@
-//! The commands and their words.
+//! The commands.
 
-ghost use Rattle.std.specs.Prelude.{◌≡◌, ◌≢◌, ℕ, ◌≤◌, decimal, [], ◌∷◌, IfSome, IfNone};
-ghost use Rattle.command_words.specs.Commands.{request_of};
-ghost use Rattle.command_words.specs.Readings.{words_of, AreReadAs, HaveReading};
-
-use crate::number::number_of;
-use decimal_in::unsigned_millionths;
-
-// The most months between dates.
-const MOST_EVERY: u64 = 1200;
+use decimal_in::Decimal;
 
 /// What the words ask for. `EVERY` is a number of months from 1 to 1200.
 #[derive(Clone, Copy, Debug, PartialEq, Eq)]
@@ -40,112 +32,17 @@ pub enum Command<'a> {
     Audit(&'a str, &'a str, i128),
     /// The totals by group of the reserves of the contracts that a CSV file holds.
     Portfolio(&'a str),
-}
-
-// A command about one file, or one seed.
-fn two_words<'a>(command: &str, word: &'a str) -> Option<Command<'a>>
-    ensures some { IfSome result (λ read. AreReadAs (command.now ∷ word.now ∷ []) (request_of read)) }
-    ensures none { IfNone result (¬ HaveReading (command.now ∷ word.now ∷ [])) }
-{
-    if command == "generate" {
-        return match number_of(word) {
-            Some(seed) => Some(Command::Generate(seed)),
-            None => None,
-        };
-    }
-    if command == "load" {
-        return match number_of(word) {
-            Some(seed) => Some(Command::Load(seed)),
-            None => None,
-        };
-    }
-    if word.is_empty() {
-        return None;
-    }
-    match command {
-        "check" => Some(Command::Check(word)),
-        "value" => Some(Command::Value(word)),
-        "premium" => Some(Command::Premium(word)),
-        "upgrade" => Some(Command::Upgrade(word)),
-        "portfolio" => Some(Command::Portfolio(word)),
-        _ => None,
-    }
-}
-
-// The months between dates.
-fn months_of(word: &str) -> Option<u32>
-    ensures some { IfSome result (λ every. (word.now ≡ decimal every) × (1 ≤ every) × (every ≤ 1200)) }
-    ensures none { IfNone result ((every : ℕ) → 1 ≤ every → every ≤ 1200 → word.now ≢ decimal every) }
-{
-    match number_of(word) {
-        Some(every) if every >= 1 && every <= MOST_EVERY => Some(every as u32),
-        _ => None,
-    }
-}
-
-// A command about two files, or about a file at dates.
-fn three_words<'a>(command: &str, file: &'a str, last: &'a str) -> Option<Command<'a>>
-    ensures some { IfSome result (λ read. AreReadAs (command.now ∷ file.now ∷ last.now ∷ []) (request_of read)) }
-    ensures none { IfNone result (¬ HaveReading (command.now ∷ file.now ∷ last.now ∷ [])) }
-{
-    if command == "join" {
-        if file.is_empty() || last.is_empty() {
-            return None;
-        }
-        return Some(Command::Join(file, last));
-    }
-    let Some(every) = months_of(last) else {
-        return None;
-    };
-    if file.is_empty() {
-        return None;
-    }
-    match command {
-        "reserves" => Some(Command::Reserves(file, every)),
-        "occupancy" => Some(Command::Occupancy(file, every)),
-        "moments" => Some(Command::Moments(file, every)),
-        _ => None,
-    }
-}
-
-// A command about two files, at dates or to a distance.
-fn four_words<'a>(command: &str, first: &'a str, second: &'a str, last: &str) -> Option<Command<'a>>
-    ensures some { IfSome result (λ read.
-        AreReadAs (command.now ∷ first.now ∷ second.now ∷ last.now ∷ []) (request_of read)) }
-    ensures none { IfNone result (¬ HaveReading (command.now ∷ first.now ∷ second.now ∷ last.now ∷ [])) }
-{
-    if first.is_empty() || second.is_empty() {
-        return None;
-    }
-    match command {
-        "compare" => match months_of(last) {
-            Some(every) => Some(Command::Compare(first, second, every)),
-            None => None,
-        },
-        "audit" => match unsigned_millionths(last.as_bytes()) {
-            Some(eps) => Some(Command::Audit(first, second, eps)),
-            None => None,
-        },
-        _ => None,
-    }
-}
-
-/// What the words ask for; `None` exactly where they have no reading. Takes no memory.
-pub fn read_words(words: &[String]) -> Option<Command<'_>>
-    ensures some { IfSome result (λ read. AreReadAs (words_of words.entry.now) (request_of read)) }
-    ensures none { IfNone result (¬ HaveReading (words_of words.entry.now)) }
-{
-    match words {
-        [command, word] => two_words(command.as_str(), word.as_str()),
-        [command, file, every] => three_words(command.as_str(), file.as_str(), every.as_str()),
-        [command, first, second, last] => {
-            four_words(
-                command.as_str(),
-                first.as_str(),
-                second.as_str(),
-                last.as_str(),
-            )
-        }
-        _ => None,
-    }
+    /// The words of the commands.
+    Help,
+    /// The program's version.
+    Version,
+    /// Print the product as a file with this rate a year added to its interest.
+    Shift(&'a str, Decimal),
+    /// Print the product as a file with the intensity between two states, by their names, times this factor of at
+    /// least 0.
+    Multiply(&'a str, &'a str, &'a str, Decimal),
+    /// Print the product as a file with so many times its premium pattern taken off its payments.
+    Charge(&'a str, i64),
+    /// The totals by group of the totals that a CSV file holds.
+    Merge(&'a str),
 }

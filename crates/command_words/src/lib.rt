@@ -2,11 +2,16 @@
 #![tactic(auto)]
 
 mod command;
+mod form;
 mod laws;
 mod number;
+mod reading;
+mod words;
 
-pub use command::{Command, read_words};
-pub use laws::readings_are_one;
+pub use command::Command;
+pub use form::Form;
+pub use laws::{commands_are_one, readings_are_one};
+pub use reading::{Reading, read_words};
 
 #[cfg(test)]
 mod tests;

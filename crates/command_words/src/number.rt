@@ -1,8 +1,11 @@
 //! Numbers in decimal, without needless zeros.
 
-ghost use Rattle.std.specs.Prelude.{◌≡◌, ◌≢◌, ℕ, ◌<◌, ◌^◌, decimal, IfSome, IfNone};
+ghost use Rattle.std.specs.Prelude.{◌≡◌, ◌≢◌, ℕ, ◌<◌, ◌≤◌, ◌^◌, decimal, IfSome, IfNone};
 
 use itoa::Buffer;
+
+// The most months between dates.
+const MOST_EVERY: u64 = 1200;
 
 /// The number that a word is in decimal: without a sign, and without needless zeros.
 pub(crate) fn number_of(word: &str) -> Option<u64>
@@ -18,5 +21,16 @@ pub(crate) fn number_of(word: &str) -> Option<u64>
         Some(number)
     } else {
         None
+    }
+}
+
+// The months between dates.
+pub(crate) fn months_of(word: &str) -> Option<u32>
+    ensures some { IfSome result (λ every. (word.now ≡ decimal every) × (1 ≤ every) × (every ≤ 1200)) }
+    ensures none { IfNone result ((every : ℕ) → 1 ≤ every → every ≤ 1200 → word.now ≢ decimal every) }
+{
+    match number_of(word) {
+        Some(every) if every >= 1 && every <= MOST_EVERY => Some(every as u32),
+        _ => None,
     }
 }

@@ -55,6 +55,10 @@ without_minus text = if has_minus text then drop 1 text else text
 abbrev pub signed : Bool → ℕ → ℤ
 signed minus size = if minus then neg_ℤ (pos size) else pos size
 
+-- the whole number of up to so many digits without a needless zero, with a minus sign or without
+abbrev pub signed_whole_of : ℕ → List ℕ → Option ℤ
+signed_whole_of most text = option_map (signed (has_minus text)) (whole_of most (without_minus text))
+
 -- the millionths of a decimal, with a minus sign or without
 abbrev pub millionths_of : List ℕ → Option ℤ
 millionths_of text = option_map (signed (has_minus text)) (size_of (without_minus text))

@@ -4,12 +4,12 @@ ghost use Rattle.std.specs.Char.{is_ascii_digit};
 ghost use Rattle.std.specs.List.{list_all};
 ghost use Rattle.decimal_in.specs.Decimals.{are_digits_up_to, fraction_of, has_needless_zero, millionths_of};
 ghost use Rattle.decimal_in.specs.Decimals.{point_of, signed, size_of, value_of, whole_of};
-ghost use Rattle.decimal_in.specs.Decimals.{has_minus, without_minus, unsigned_millionths_of};
+ghost use Rattle.decimal_in.specs.Decimals.{has_minus, signed_whole_of, without_minus, unsigned_millionths_of};
 
 // The most digits before a point, and after it.
-const MOST_WHOLE: usize = 18;
+pub(crate) const MOST_WHOLE: usize = 18;
 
-const MOST_AFTER: usize = 6;
+pub(crate) const MOST_AFTER: usize = 6;
 
 const MILLION: u128 = 1_000_000;
 
@@ -26,14 +26,14 @@ fn all_digits(text: &[u8]) -> bool
 }
 
 // Whether the text has one digit or more, up to so many, and nothing else.
-fn are_digits(text: &[u8], most: usize) -> bool
+pub(crate) fn are_digits(text: &[u8], most: usize) -> bool
     ensures { result ≡ are_digits_up_to most text.now }
 {
     !text.is_empty() && text.len() <= most && all_digits(text)
 }
 
 // The number that digits stand for.
-fn value(digits: &[u8]) -> u64
+pub(crate) fn value(digits: &[u8]) -> u64
     requires count { length digits.now ≤ 18 }
     requires digits { list_all is_ascii_digit digits.now ≡ true }
     ensures value { result ≡ value_of digits.now }
@@ -66,6 +66,16 @@ pub fn whole(text: &[u8], most: usize) -> Option<u64>
     }
 }
 
+/// The whole number of up to so many digits without a needless zero, perhaps behind a minus sign.
+pub fn signed_whole(text: &[u8], most: usize) -> Option<i64>
+    requires { most ≤ 18 }
+    ensures value { result ≡ signed_whole_of most text.now }
+    ensures small { IfSome result (λ number. unsigned_abs number < 10 ^ 18) }
+{
+    let number = whole(unsigned(text), most)? as i64;
+    Some(if minus(text) { -number } else { number })
+}
+
 // The millionths of up to six digits after a point.
 fn fraction(text: &[u8]) -> Option<u64>
     ensures value { result ≡ fraction_of text.now }
@@ -79,7 +89,7 @@ fn fraction(text: &[u8]) -> Option<u64>
 }
 
 // Where the first point stands, or the length of a text without one.
-fn point(text: &[u8]) -> usize
+pub(crate) fn point(text: &[u8]) -> usize
     ensures { result ≡ point_of text.now }
 {
     for (i, byte) in text.iter().enumerate() {
@@ -107,21 +117,21 @@ fn size(text: &[u8]) -> Option<u128>
 }
 
 // Whether the first byte is a minus sign.
-fn minus(text: &[u8]) -> bool
+pub(crate) fn minus(text: &[u8]) -> bool
     ensures { result ≡ has_minus text.now }
 {
     !text.is_empty() && text[0] == b'-'
 }
 
 // What stands behind a minus sign, or the whole text.
-fn unsigned(text: &[u8]) -> &[u8]
+pub(crate) fn unsigned(text: &[u8]) -> &[u8]
     ensures { result.now ≡ without_minus text.now }
 {
     if minus(text) { &text[1..] } else { text }
 }
 
 // A number by its size.
-fn with_sign(minus: bool, number: u128) -> i128
+pub(crate) fn with_sign(minus: bool, number: u128) -> i128
     requires { number < 10 ^ 24 }
     ensures value { result ≡ signed minus number }
     ensures small { unsigned_abs result < 10 ^ 24 }

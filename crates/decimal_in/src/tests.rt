@@ -1,4 +1,6 @@
-use crate::{millionths, unsigned_millionths, whole};
+use crate::{
+    Decimal, decimal, millionths, signed_whole, unsigned_decimal, unsigned_millionths, whole,
+};
 use std::test::Fail;
 
 #[test]
@@ -44,5 +46,56 @@ fn numbers_without_a_sign_are_read(rt: HostRuntime) -> Result<(), Fail> {
     }
     assert_eq!(rt; whole(b"1200", 4), Some(1200));
     assert_eq!(rt; whole(b"12000", 4), None);
+    Ok(())
+}
+
+#[test]
+fn decimals_keep_their_places(rt: HostRuntime) -> Result<(), Fail> {
+    for (text, wanted) in [
+        ("-0.010", Some((-10, 3))),
+        ("0.00", Some((0, 2))),
+        ("-0", Some((0, 0))),
+        ("12", Some((12, 0))),
+        (
+            "-999999999999999999.999999",
+            Some((-999_999_999_999_999_999_999_999, 6)),
+        ),
+        ("1.1234567", None),
+        ("1.", None),
+        (".5", None),
+        ("01.5", None),
+        ("+1", None),
+        ("-", None),
+    ] {
+        let wanted = wanted.map(|(units, places)| Decimal { units, places });
+        assert_eq!(rt; decimal(text.as_bytes()), wanted);
+    }
+    let wanted = Decimal {
+        units: 110,
+        places: 2,
+    };
+    assert_eq!(rt; unsigned_decimal(b"1.10"), Some(wanted));
+    assert_eq!(rt; unsigned_decimal(b"-1.10"), None);
+    Ok(())
+}
+
+#[test]
+fn whole_numbers_have_a_sign(rt: HostRuntime) -> Result<(), Fail> {
+    for (text, wanted) in [
+        ("409", Some(409)),
+        ("-409", Some(-409)),
+        ("-0", Some(0)),
+        ("-999999999999999999", Some(-999_999_999_999_999_999)),
+        ("1000000000000000000", None),
+        ("-01", None),
+        ("--1", None),
+        ("+1", None),
+        ("1.0", None),
+        ("", None),
+    ] {
+        assert_eq!(rt; signed_whole(text.as_bytes(), 18), wanted);
+    }
+    assert_eq!(rt; signed_whole(b"-1200", 4), Some(-1200));
+    assert_eq!(rt; signed_whole(b"-12000", 4), None);
     Ok(())
 }

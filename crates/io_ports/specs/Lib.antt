@@ -1,6 +1,7 @@
 pub mod Counts
 pub mod FileShelf
 pub mod Files
+pub mod Given
 pub mod Growth
 pub mod MemoryShelf
 pub mod MemorySink

@@ -3,6 +3,7 @@ use Rattle.std.specs.Prelude.{◌≡◌, ℕ, ◌⊎◌, List, None, Contains}
 use Rattle.io_ports.specs.declared.memory_shelf.MemoryShelf.{MemoryShelf}
 use Rattle.io_ports.specs.Counts.{next_count}
 use Rattle.io_ports.specs.Files.{file_of, files_of, names_of}
+use Rattle.io_ports.specs.Given.{Evidence, evidence_of}
 
 -- its files, as pairs of name and bytes
 abbrev pub files_in : MemoryShelf → List (List ℕ × List ℕ)
@@ -11,6 +12,10 @@ files_in shelf = files_of shelf.files.items
 -- the names whose fetch failed, the oldest first
 abbrev pub failed_in : MemoryShelf → List (List ℕ)
 failed_in shelf = names_of shelf.failed.items
+
+-- evidence of each file that was given, the oldest first
+abbrev pub given_in : MemoryShelf → List Evidence
+given_in shelf = evidence_of shelf.given.items
 
 -- how many calls there were, up to the largest `u64`
 abbrev pub calls_of : MemoryShelf → ℕ

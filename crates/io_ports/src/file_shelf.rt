@@ -3,9 +3,10 @@ ghost use Rattle.std.specs.Prelude.{◌≡◌, ℕ, ◌+◌, ◌-◌, ◌^◌, �
 ghost use Rattle.std.specs.Prelude.{[], None, IfOk, IsErrOf, vec_len};
 ghost use Rattle.std.specs.Io.KnownBytes.{Consumes, IsAtEnd};
 ghost use Rattle.io_ports.specs.Files.{names_of, failure_of};
+ghost use Rattle.io_ports.specs.Given.{evidence_of, given_by};
 ghost use Rattle.io_ports.specs.Reads.{ConsumesMany, IsReadWhole, IsReadTo};
 
-use crate::{FetchError, Shelf};
+use crate::{FetchError, Given, Shelf};
 use std::alloc::Global;
 use std::fs;
 use std::io::Read;
@@ -16,16 +17,19 @@ use std::rt::Files;
 pub struct FileShelf<'a, R: Files> {
     rt: &'a R,
     failed: Vec<Vec<u8>>,
+    given: Vec<Given>,
 }
 
 impl<'a, R: Files> FileShelf<'a, R> {
     pub fn new(rt: &'a R, alloc: Global) -> FileShelf<'a, R>
         ensures told { ⟦<FileShelf<'a, R> as Shelf>⟧.files result ≡ None }
         ensures none_failed { ⟦<FileShelf<'a, R> as Shelf>⟧.failed result ≡ [] }
+        ensures none_given { ⟦<FileShelf<'a, R> as Shelf>⟧.given result ≡ [] }
     {
         FileShelf {
             rt,
             failed: Vec::new(alloc),
+            given: Vec::new(alloc),
         }
     }
 }
@@ -71,11 +75,13 @@ fn read_file<R: Files>(rt: &R, alloc: Global, name: &str, most: u64) -> Result<V
 }
 
 impl<R: Files> Shelf for FileShelf<'_, R> {
-    ghost use Rattle.io_ports.specs.FileShelf.{failed_in};
+    ghost use Rattle.io_ports.specs.FileShelf.{failed_in, given_in};
 
     ghost files = { λ shelf. None };
 
     ghost failed = { λ shelf. names_of shelf.failed.items };
+
+    ghost given = { λ shelf. evidence_of shelf.given.items };
 
     fn fetch(&mut self, alloc: Global, name: &str, most: u64) -> Result<Vec<u8>, FetchError>
         requires { most < 2 ^ 32 }
@@ -85,14 +91,24 @@ impl<R: Files> Shelf for FileShelf<'_, R> {
         ensures seen { (seen : ℕ) → IsErrOf result (FetchError.TooLong seen) → seen ≡ most + 1 }
         ensures taken { (seen : ℕ) → IsErrOf result (FetchError.TooLong seen) →
             IsReadTo R.File.remaining seen }
+        ensures given { given_in self.new ≡ given_in self.old ++ given_by name.now result }
     {
-        // Room for the name first, so that each failure is kept.
+        // Room for what is kept first, so that each failure and each file is kept.
         let kept = name.as_bytes().to_vec(alloc)?;
         self.failed.reserve(1)?;
+        self.given.reserve(1)?;
         let result = read_file(self.rt, alloc, name, most);
-        if let Err(FetchError::Failed) = result {
-            self.failed.push(kept).unwrap();
+        match &result {
+            Ok(bytes) => self.given.push(Given::of(kept, bytes)).unwrap(),
+            Err(FetchError::Failed) => self.failed.push(kept).unwrap(),
+            Err(_) => {}
         }
         result
+    }
+
+    fn given(&self) -> &[Given]
+        ensures { evidence_of result.now ≡ given_in self.now }
+    {
+        &self.given
     }
 }

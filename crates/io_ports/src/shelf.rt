@@ -1,9 +1,12 @@
-// A shelf gives whole files by their names, and keeps the names of the fetches that failed.
+// A shelf gives whole files by their names, and keeps the names of the fetches that failed and evidence of the files
+// that it gave.
 ghost use Rattle.std.specs.Prelude.{◌≡◌, ◌≢◌, ℕ, ◌+◌, ◌^◌, ◌<◌, ◌≤◌, ◌++◌};
 ghost use Rattle.std.specs.Prelude.{List, Option, IfOk, IsErrOf, vec_len};
 ghost use Rattle.io_ports.specs.declared.shelf.FetchError.TheVariants.{Memory};
+ghost use Rattle.io_ports.specs.Given.{Evidence, evidence_of, given_by};
 ghost use Rattle.io_ports.specs.Files.{failure_of, AnswersFrom, IsMissing, IsLonger, IsErrOrMemory};
 
+use crate::Given;
 use std::alloc::{AllocError, AllocFailed, Global};
 
 /// Why a file was not given: a fault outside, more bytes than were asked for (the number is that
@@ -39,6 +42,9 @@ pub trait Shelf {
     /// The names whose fetch failed, the oldest first. Their number is the count of faults.
     ghost failed: { Self → List (List ℕ) };
 
+    /// Evidence of each file that was given whole, the oldest first.
+    ghost given: { Self → List Evidence };
+
     /// All bytes of the file of that name, of which there are at most `most`.
     fn fetch(&mut self, alloc: Global, name: &str, most: u64) -> Result<Vec<u8>, FetchError>
         requires { most < 2 ^ 32 }
@@ -53,5 +59,12 @@ pub trait Shelf {
         ensures longer { IsLonger (files self.old) name.now most → result ≢ Err FetchError.Failed →
             IsErrOrMemory result (FetchError.TooLong (most + 1)) }
 
-        ensures files { files self.new ≡ files self.old };
+        ensures files { files self.new ≡ files self.old }
+
+        // Evidence is added exactly where the file was given, and it is that of this name and these bytes.
+        ensures given { given self.new ≡ given self.old ++ given_by name.now result };
+
+    /// What is kept of each file that was given whole, the oldest first.
+    fn given(&self) -> &[Given]
+        ensures { evidence_of result.now ≡ given self.now };
 }

@@ -1,4 +1,6 @@
-use crate::{FetchError, FileShelf, MemoryShelf, MemorySink, Shelf, Sink, SinkFault, StdSink};
+use crate::{
+    FetchError, FileShelf, Given, MemoryShelf, MemorySink, Shelf, Sink, SinkFault, StdSink,
+};
 use std::alloc::{AllocError, Global};
 use std::io::Write;
 use std::test::Fail;
@@ -32,6 +34,55 @@ fn memory_shelf_answers(rt: HostRuntime) -> Result<(), Fail> {
             Err(error) => assert_eq!(rt; answer.err(), Some(error), "{name} {most}"),
         }
     }
+    Ok(())
+}
+
+// The digests of FIPS 180-4's example "abc" and of the empty file.
+const OF_ABC: &str = "ba7816bf8f01cfea414140de5dae2223b00361a396177a9cb410ff61f20015ad";
+
+const OF_NOTHING: &str = "e3b0c44298fc1c149afbf4c8996fb92427ae41e4649b934ca495991b7852b855";
+
+fn hex(alloc: Global, digest: &[u8]) -> Result<String, AllocError> {
+    let mut text = String::new(alloc);
+    for byte in digest {
+        text.push_str(&format!(in alloc; "{byte:02x}")?)?;
+    }
+    Ok(text)
+}
+
+fn is_kept(
+    alloc: Global,
+    kept: &[Given],
+    wanted: &[(&str, u64, &str)],
+) -> Result<bool, AllocError> {
+    let mut alike = kept.len() == wanted.len();
+    for (given, file) in kept.iter().zip(wanted) {
+        alike = alike && given.name.as_slice() == file.0.as_bytes() && given.bytes == file.1;
+        alike = alike && hex(alloc, &given.sha256)?.as_str() == file.2;
+    }
+    Ok(alike)
+}
+
+#[test]
+fn given_files_leave_evidence(rt: HostRuntime) -> Result<(), Fail> {
+    let alloc = rt.alloc();
+    let mut files = Vec::new(alloc);
+    files.push((b"x".to_vec(alloc)?, b"abc".to_vec(alloc)?))?;
+    files.push((b"y".to_vec(alloc)?, b"".to_vec(alloc)?))?;
+    let mut shelf = MemoryShelf::new(alloc, files, Vec::new(alloc));
+    for (name, most) in [("x", 3), ("z", 3), ("x", 2), ("y", 0)] {
+        let _ = shelf.fetch(alloc, name, most);
+    }
+    let wanted = [("x", 3, OF_ABC), ("y", 0, OF_NOTHING)];
+    assert!(rt; is_kept(alloc, shelf.given(), &wanted)?);
+    let name = "given_files.test";
+    fs::write(&rt, name, b"abc".as_slice())?;
+    let mut real = FileShelf::new(&rt, alloc);
+    let _ = real.fetch(alloc, "no such file.test", 3);
+    let _ = real.fetch(alloc, name, 2);
+    let _ = real.fetch(alloc, name, 3)?;
+    assert!(rt; is_kept(alloc, real.given(), &[(name, 3, OF_ABC)])?);
+    fs::remove_file(&rt, name)?;
     Ok(())
 }
 

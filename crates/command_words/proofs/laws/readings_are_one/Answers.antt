@@ -1,4 +1,4 @@
-use Rattle.command_words.proofs.Readings.{readings_are_one}
+use Rattle.command_words.proofs.Forms.{readings_are_one}
 use Rattle.command_words.proofs.laws.readings_are_one.Goals as goal
 
 pub returns : goal.returns

@@ -12,4 +12,5 @@ fetch-tells g c =
       seen = c.ensures.seen;
       longer = λ told. absurd told;
       files = refl;
+      given = c.ensures.given;
     }
