@@ -1,0 +1,3 @@
+pub mod CsvText
+pub mod JsonText
+pub mod Sheets
