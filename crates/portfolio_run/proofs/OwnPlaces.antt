@@ -30,7 +30,7 @@ names_differ names own i k i_within k_within apart =
     apart (sym (own i i_within) ∙ ap (place_in names) (sym alike) ∙ own k k_within))
 
 -- a name that is not among them differs from each
-differs : (names : List (List ℕ)) (name : List ℕ) → is_among names name ≡ false → (k : ℕ) → k < length names
+pub differs : (names : List (List ℕ)) (name : List ℕ) → is_among names name ≡ false → (k : ℕ) → k < length names
     → bytes_eq name (name_at names k) ≡ false
 differs names name new k within = fails (bytes_eq name (name_at names k)) (λ same.
     let there = list_any_at (bytes_eq name) names k [] within same in absurd (let both = there in cc))

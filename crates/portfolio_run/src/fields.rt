@@ -96,8 +96,8 @@ fn has_name_bytes(name: &[u8]) -> bool
     name.iter().all(|byte| is_name_byte(*byte))
 }
 
-// Whether a group may have the name.
-fn is_group_name(name: &[u8]) -> bool
+/// Whether a group may have the name: 1 to 24 letters, digits, points, underscores or dashes of ASCII.
+pub fn is_group_name(name: &[u8]) -> bool
     ensures { IsTrue result ↔ IsGoodName 24 name.now }
 {
     !name.is_empty() && name.len() <= LONGEST_GROUP && has_name_bytes(name)

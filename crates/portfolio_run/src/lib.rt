@@ -10,7 +10,8 @@ mod totals;
 mod totals_text;
 mod valued;
 
-pub use fields::Fault;
+pub use fields::{Fault, is_group_name};
+pub use names::Names;
 pub use policies::Policies;
 pub use reading::{PolicyError, read_policies};
 pub use totals::{Total, Totals};

@@ -9,7 +9,7 @@ use std::marker::Model;
 
 /// Different names in the order in which they were first noted. Each is found in constant time.
 #[derive(Drop)]
-pub(crate) struct Names {
+pub struct Names {
     set: IndexSet<Vec<u8>>,
 }
 
@@ -23,6 +23,7 @@ impl Model for Names {
 }
 
 impl Names {
+    /// No names.
     pub fn new(alloc: Global) -> Names
         ensures { result ≡ [] }
     {
@@ -31,6 +32,7 @@ impl Names {
         }
     }
 
+    /// How many names there are.
     pub fn len(&self) -> usize
         ensures count { result ≡ length self.now }
         ensures small { result < 2 ^ 63 }
@@ -38,13 +40,14 @@ impl Names {
         self.set.len()
     }
 
+    /// Whether the name was noted.
     pub fn has(&self, name: &[u8]) -> bool
         ensures { result ≡ is_among self.now name.now }
     {
         self.set.contains(name)
     }
 
-    /// Notes a name, and answers its place.
+    /// Notes a name, and answers its place among the different ones.
     pub fn note(&mut self, alloc: Global, name: &[u8]) -> Result<usize, AllocError>
         ensures noted { OnOk result (self.new ≡ with_name self.old name.now) }
         ensures place { IfOk result (λ place. slice_get self.new place ≡ Some name.now) }
@@ -53,6 +56,7 @@ impl Names {
         Ok(place)
     }
 
+    /// The names in their order.
     pub fn as_slice(&self) -> &[Vec<u8>]
         ensures { texts_of result.now ≡ self.now }
     {

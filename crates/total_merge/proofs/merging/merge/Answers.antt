@@ -1,0 +1,31 @@
+use Rattle.std.proofs.Common.{◌≡◌, ◌≤◌, length, map, subst, sym, arith}
+use Rattle.std.specs.Prelude.{All}
+use Rattle.std.proofs.lemmas.List.{length-map}
+use Rattle.portfolio_run.specs.Stored.{most_bytes}
+use Rattle.total_merge.specs.Entries.{kept_entries, kept_entry, IsInRange}
+use Rattle.total_merge.specs.Sums.{groups_of, name_of, HasSums}
+use Rattle.total_merge.proofs.MergedTables.{text_in_range, text_is_few, totals_have_text}
+use Rattle.total_merge.proofs.merging.merge.Goals as goal
+
+pub sum_up-requires-clause-range : goal.sum_up-requires-clause-range
+sum_up-requires-clause-range c =
+    subst (λ rows. All IsInRange (kept_entries rows)) (sym c.deref.ensures.value)
+    (text_in_range c.args.text.now (kept_entries c.in-Ok.entries.items) c.in-Ok.ensures.ok)
+
+pub sum_up-requires-clause-few : goal.sum_up-requires-clause-few
+sum_up-requires-clause-few c =
+    let few = text_is_few c.args.text.now (kept_entries c.in-Ok.entries.items) c.in-Ok.ensures.ok in
+    let count = length-map c.in-Ok.entries.items kept_entry in
+    subst (λ rows. length rows ≤ most_bytes) (sym c.deref.ensures.value)
+    (omega (arith, few, count, c.requires.most))
+
+pub returns-clause-text : goal.returns-clause-text
+returns-clause-text c =
+    let entries = kept_entries c.in-Ok.entries.items in
+    let few = text_is_few c.args.text.now entries c.in-Ok.ensures.ok in
+    let short : length entries ≤ most_bytes = omega (arith, few, c.requires.most) in
+    totals_have_text entries _ (text_in_range c.args.text.now entries c.in-Ok.ensures.ok) short
+    (subst (λ rows. map name_of c.in-Ok-sum_up.groups.items ≡ groups_of (kept_entries rows)) c.deref.ensures.value
+    c.in-Ok-sum_up.ensures.groups)
+    (subst (λ rows. All (HasSums (kept_entries rows)) c.in-Ok-sum_up.groups.items) c.deref.ensures.value
+    c.in-Ok-sum_up.ensures.right)

@@ -1,0 +1,5 @@
+pub mod Entries
+pub mod Laws
+pub mod Merged
+pub mod Sums
+pub mod Tables
