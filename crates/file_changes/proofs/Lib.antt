@@ -1,0 +1,9 @@
+pub mod Bases
+pub mod ChargeParts
+pub mod ChargedLumps
+pub mod Completions
+pub mod Lists
+pub mod Lumps
+pub mod Parts
+pub mod Pieces
+pub mod Words

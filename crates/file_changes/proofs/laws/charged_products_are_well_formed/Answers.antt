@@ -1,0 +1,5 @@
+use Rattle.file_changes.proofs.ChargedLumps.{charged_is_well_formed}
+use Rattle.file_changes.proofs.laws.charged_products_are_well_formed.Goals as goal
+
+pub returns : goal.returns
+returns c = charged_is_well_formed

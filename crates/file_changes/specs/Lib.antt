@@ -1,0 +1,4 @@
+pub mod Asks
+pub mod BasisChanges
+pub mod Charges
+pub mod Laws

@@ -1,0 +1,8 @@
+//! What holds of charged products. Each function says a law and returns at once.
+
+ghost use Rattle.file_changes.specs.Laws.{ChargedProductsAreWellFormed};
+
+/// A charged product obeys rules 3 to 14 where its lumps are small enough.
+pub fn charged_products_are_well_formed()
+    ensures { ChargedProductsAreWellFormed }
+{}

@@ -1,0 +1,24 @@
+//! Product files changed: a force of interest that is shifted, an intensity that is multiplied, a premium that is
+//! charged.
+#![tactic(auto)]
+
+mod assembly;
+mod basis;
+mod breaks;
+mod charged;
+mod charging;
+mod coefficients;
+mod completing;
+mod copies;
+mod curves;
+mod finer;
+mod laws;
+mod rates;
+mod shifting;
+#[cfg(test)]
+mod tests;
+
+pub use breaks::{ChangeBreak, ChangeError};
+pub use charging::charge;
+pub use laws::charged_products_are_well_formed;
+pub use shifting::{multiply, shift};
