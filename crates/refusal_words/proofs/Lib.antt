@@ -1,0 +1,4 @@
+pub mod NameLaws
+pub mod OtherKeys
+pub mod PlaceLaws
+pub mod Sojourns

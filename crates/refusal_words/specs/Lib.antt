@@ -1,0 +1,10 @@
+pub mod FileNames
+pub mod Findings
+pub mod Laws
+pub mod PartTexts
+pub mod PlaceTexts
+pub mod Places
+pub mod RowTexts
+pub mod RuleTexts
+pub mod Rules
+pub mod TomlTexts

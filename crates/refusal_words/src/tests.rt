@@ -1,0 +1,321 @@
+// Files that are written out here, and the lines under their refusals, worked out by hand.
+use crate::{
+    CsvTable, change_lines, compare_lines, derived_lines, join_lines, length_lines, premium_lines,
+    row_lines, rule_lines, toml_lines, words_lines,
+};
+use rule_breaks::{RowBreak, RuleBreak};
+use std::alloc::Global;
+use std::test::Fail;
+
+/// The file of the documentation, in lines that tests change.
+const FILE: [&str; 27] = [
+    "format = 1",
+    "name = \"disability\"",
+    "months = 120",
+    "den = 1000000",
+    "start = \"active\"",
+    "states = [\"active\", \"disabled\", \"dead\"]",
+    "interest = [{ from = 0, c = [30000] }, { from = 60, c = [25000, -1000] }]",
+    "[[transition]]",
+    "from = \"active\"",
+    "to = \"disabled\"",
+    "rate = [{ from = 0, c = [5000, 1000] }]",
+    "[[transition]]",
+    "from = \"active\"",
+    "to = \"dead\"",
+    "rate = [{ from = 0, c = [2000] }, { from = 60, c = [3000] }]",
+    "sum = [{ from = 0, amount = 100000 }]",
+    "[[sojourn]]",
+    "state = \"disabled\"",
+    "steps = [{ from = 0, amount = 12000 }, { from = 60, amount = 15000 }]",
+    "[[lump]]",
+    "month = 120",
+    "state = \"active\"",
+    "amount = 50000",
+    "[premium]",
+    "payers = [\"active\"]",
+    "until = 120",
+    "every = 1",
+];
+
+// The file with another line at a place.
+fn with_line(alloc: Global, place: usize, line: &str) -> Result<String, Fail> {
+    let mut text = String::new(alloc);
+    for (i, kept) in FILE.iter().enumerate() {
+        text.push_str(if i == place { line } else { kept })?;
+        text.push('\n')?;
+    }
+    Ok(text)
+}
+
+// Changed lines by their place, the rule that each breaks first, its place, and the lines from that place on.
+const CASES: [(usize, &str, u8, u32, &str); 28] = [
+    (2, "months = \"120\"", 1, 2, "months\n"),
+    (
+        0,
+        "format = 1\ncurrency = \"EUR\"",
+        1,
+        11,
+        "another key, currency\n",
+    ),
+    (
+        0,
+        "format = 3",
+        2,
+        0,
+        "format\nfound: format = 3\nwanted: format = 1 to 2\n",
+    ),
+    (
+        5,
+        "states = [\"active\", \"on leave\", \"dead\"]",
+        3,
+        3,
+        "state 2\n",
+    ),
+    (
+        5,
+        "states = [\"active\", \"active\", \"dead\"]",
+        3,
+        3,
+        "state 2, active\n",
+    ),
+    (
+        5,
+        "states = []",
+        3,
+        1,
+        "states\nfound: 0 states\nwanted: 1 to 8 states\n",
+    ),
+    (
+        2,
+        "months = 1201",
+        4,
+        0,
+        "months\nfound: months = 1201\nwanted: months = 1 to 1200\n",
+    ),
+    (
+        3,
+        "den = 0",
+        5,
+        0,
+        "den\nfound: den = 0\nwanted: den = 1 to 1000000000000\n",
+    ),
+    (
+        4,
+        "start = \"Active\"",
+        6,
+        0,
+        "start\nfound: start = Active\nwanted: start = the name of a state\n",
+    ),
+    (
+        13,
+        "to = \"active\"",
+        7,
+        1,
+        "transition 2, active to active\n",
+    ),
+    (13, "", 7, 1, "transition 2\n"),
+    (
+        14,
+        "rate = [{ from = 0, c = [2000] }, { from = 120, c = [3000] }]",
+        8,
+        8193,
+        "transition 2, active to dead, rate, piece 2\nfound: from = 120\nwanted: from = 1 to 119\n",
+    ),
+    (
+        6,
+        "interest = [{ from = 0, c = [0.05] }]",
+        8,
+        0,
+        "interest, piece 1\nwanted: from, a whole number, and c, 1 to 4 whole numbers\n",
+    ),
+    (
+        6,
+        "interest = []",
+        8,
+        0,
+        "interest, piece 1\nfound: no piece\nwanted: at least one piece\n",
+    ),
+    (
+        10,
+        "rate = [{ from = 0, c = [5000, 1000, 1000000000000000000] }]",
+        9,
+        4096,
+        "transition 1, active to disabled, rate, piece 1\n",
+    ),
+    (
+        18,
+        "steps = [{ from = 0, amount = 12000.5 }]",
+        10,
+        8192,
+        "sojourn 1, disabled, steps, step 1\nwanted: from and amount, both whole numbers\n",
+    ),
+    (
+        15,
+        "sum = [{ from = 1, amount = 100000 }]",
+        10,
+        4096,
+        "transition 2, active to dead, sum, step 1\nfound: from = 1\nwanted: from = 0\n",
+    ),
+    (17, "state = \"ill\"", 10, 8192, "sojourn 1, ill\n"),
+    (
+        18,
+        "steps = [{ from = 0, amount = 2000000000000 }]",
+        11,
+        8192,
+        "sojourn 1, disabled, steps, step 1\nfound: amount = 2000000000000\n\
+        wanted: amount = -1000000000000 to 1000000000000\n",
+    ),
+    (
+        20,
+        "month = 121",
+        12,
+        0,
+        "lump 1, active\nfound: month = 121\nwanted: month = 0 to 120\n",
+    ),
+    (
+        24,
+        "payers = [\"alive\"]",
+        13,
+        1,
+        "premium, payer 1, alive\n",
+    ),
+    (24, "payers = []", 13, 1, "premium, payers\n"),
+    (26, "every = 0.5", 13, 0, "premium\n"),
+    (
+        25,
+        "until = 121",
+        14,
+        0,
+        "premium, until\nfound: until = 121\nwanted: until = 1 to 120\n",
+    ),
+    (
+        26,
+        "every = 1201",
+        14,
+        1,
+        "premium, every\nfound: every = 1201\nwanted: every = 0 to 1200\n",
+    ),
+    (
+        6,
+        "interest = [{ from = 0, c = [30000] }, { from = 60, c = [300000] }]",
+        15,
+        60,
+        "month 60, interest, piece 2\n",
+    ),
+    (
+        10,
+        "rate = [{ from = 0, c = [5000, -1000] }]",
+        16,
+        60,
+        "month 60\n",
+    ),
+    (0, "format = 1", 18, 0, "the product\n"),
+];
+
+#[test]
+fn rules_name_what_is_broken(rt: HostRuntime) -> Result<(), Fail> {
+    for (place, line, rule, number, wanted) in CASES {
+        let text = with_line(rt.alloc(), place, line)?;
+        let lines = rule_lines(
+            rt.alloc(),
+            text.as_bytes(),
+            RuleBreak {
+                rule,
+                place: number,
+            },
+        )?;
+        let lines = std::str::from_utf8(&lines)?;
+        let (sentence, at) = lines.split_once("\nat: ").ok_or("no place")?;
+        assert!(rt; sentence.starts_with("rule: "));
+        assert_eq!(rt; at, wanted);
+    }
+    Ok(())
+}
+
+#[test]
+fn rules_say_what_they_demand(rt: HostRuntime) -> Result<(), Fail> {
+    let lines = derived_lines(
+        rt.alloc(),
+        RuleBreak {
+            rule: 17,
+            place: 60,
+        },
+    )?;
+    let wanted =
+        "rule: the greatest intensities of a month out of one state add up to at most 2 a year\nat: month 60\n";
+    assert_eq!(rt; lines.as_slice(), wanted.as_bytes());
+    let lines = derived_lines(
+        rt.alloc(),
+        RuleBreak {
+            rule: 8,
+            place: 8193,
+        },
+    )?;
+    let wanted =
+        "rule: the pieces of a curve start at month 0, each later one after the one before, all below months\n\
+        at: transition 2, rate, piece 2\n";
+    assert_eq!(rt; lines.as_slice(), wanted.as_bytes());
+    assert!(rt; derived_lines(rt.alloc(), RuleBreak { rule: 19, place: 0 })?.is_empty());
+    Ok(())
+}
+
+#[test]
+fn parts_and_rows_say_what_they_demand(rt: HostRuntime) -> Result<(), Fail> {
+    let alloc = rt.alloc();
+    let row = |table, row, part| row_lines(alloc, table, RowBreak { row, part });
+    for (lines, wanted) in [
+        (
+            join_lines(alloc, 3)?,
+            "rule: there are at most 12 pairs of a state of the first file and a state of the second\nat: states\n",
+        ),
+        (
+            compare_lines(alloc, 1)?,
+            "rule: both files have the same term\nat: months\n",
+        ),
+        (compare_lines(alloc, 5)?, ""),
+        (
+            change_lines(alloc, 4)?,
+            "rule: the file has a premium table\nat: premium\n",
+        ),
+        (
+            row(CsvTable::Claims, 0, 0)?,
+            "rule: the first record is month,state,reserve\nat: record 0\n",
+        ),
+        (
+            row(CsvTable::Holdings, 3, 6)?,
+            "rule: month is at most the term of the product\nat: record 3, month\n",
+        ),
+        (
+            row(CsvTable::Totals, 12, 5)?,
+            "rule: tolerance is such a number without a sign\nat: record 12, tolerance\n",
+        ),
+        (
+            length_lines(alloc)?,
+            "rule: a file has at most 1048576 bytes\n",
+        ),
+        (
+            premium_lines(alloc)?,
+            "rule: the interval of the value of the premium pattern begins at 1/32 or above\n",
+        ),
+        (
+            words_lines(alloc)?,
+            "rule: the words are one of the commands that help prints, with its files and numbers\n",
+        ),
+        (
+            toml_lines(alloc, b"a = 1\nb == 2\n")?,
+            "rule: the file is TOML text\nat: line 2, column 4\n",
+        ),
+        (
+            toml_lines(alloc, "a = 1\n\u{e9} = 2\n".as_bytes())?,
+            "rule: the file is TOML text\nat: line 2, column 1\n",
+        ),
+        (
+            toml_lines(alloc, b"a = 1\n")?,
+            "rule: the file is TOML text\n",
+        ),
+    ] {
+        assert_eq!(rt; lines.as_slice(), wanted.as_bytes());
+    }
+    Ok(())
+}
