@@ -10,14 +10,16 @@ use Rattle.claim_audit.specs.declared.reading.AuditError.TheVariants as error
 use Rattle.claim_audit.specs.Audits.{IsAudit}
 use Rattle.claim_audit.specs.Readings.{TellsWrongIn}
 use Rattle.command_words.specs.Readings.{Audit}
+use Rattle.refusal_words.specs.declared.row_texts.CsvTable.TheVariants as table
 use Rattle.thiele_cli.specs.declared.answer.Answer.{Answer}
 use Rattle.thiele_cli.specs.declared.answer.Answer.TheVariants as answer
 use Rattle.thiele_cli.specs.declared.fetching.Fetched.{Fetched}
 use Rattle.thiele_cli.specs.declared.fetching.Fetched.TheVariants as fetch
-use Rattle.thiele_cli.specs.declared.file_break.FileBreak.{FileBreak}
-use Rattle.thiele_cli.specs.declared.file_break.FileBreak.TheVariants as file
+use Rattle.thiele_cli.specs.declared.file_break.FileRefusal.{FileRefusal}
 use Rattle.thiele_cli.specs.declared.refusal.Refusal.TheVariants as refusal
+use Rattle.thiele_cli.specs.FileFaults.{FileFault, fault_in, too_long}
 use Rattle.thiele_cli.specs.Questions.{OfClaims, IsRead}
+use Rattle.thiele_cli.specs.Replies.{IsRefusedText}
 use Rattle.thiele_cli.specs.Cases.{Files, AreBytesOf, HasFault, HasProduct}
 use Rattle.thiele_cli.specs.Cases.{FirstRefused, SecondRefused, AnsweredOfClaims}
 use Rattle.thiele_cli.specs.Audits.{AnswersAudit, IsDistance}
@@ -39,26 +41,34 @@ pub bytes_told : (given files : Files) (name : List ℕ) (fetched : Fetched) (by
 bytes_told given files name fetched bytes same is told =
     subst (λ told. AreBytesOf told name bytes.items) same (subst (IsFetched given name) is told)
 
+-- a file that is too long has that fault
+pub long_fault : (files : Files) (name : List ℕ) (seen : ℕ) → IsFetched files name (fetch.TooLong seen)
+    → HasFault files name (too_long seen)
+long_fault files name seen told = (told.0, told.1, refl)
+
 -- and that it was too long
 pub long_told : (given files : Files) (name : List ℕ) (fetched : Fetched) (seen : ℕ) → given ≡ files
-    → fetched ≡ fetch.TooLong seen → IsFetched given name fetched → HasFault files name (file.TooLong seen)
+    → fetched ≡ fetch.TooLong seen → IsFetched given name fetched → HasFault files name (too_long seen)
 long_told given files name fetched seen same is told =
-    subst (λ told. HasFault told name (file.TooLong seen)) same (subst (IsFetched given name) is told)
+    subst (λ told. HasFault told name (too_long seen)) same
+    (long_fault given name seen (subst (IsFetched given name) is told))
 
 -- the product file is refused
-pub refused_product : (files : Files) (name claims : List ℕ) (eps : ℤ) (cause : FileBreak) → HasFault files name cause
-    → AnswersAsked files (OfClaims name claims eps) (answer.Refused (refusal.First cause))
-refused_product files name claims eps cause fault =
-    record { case = FirstRefused cause; holds = inl (cause, fault, refl); says = refl }
+pub refused_product : (files : Files) (name claims : List ℕ) (eps : ℤ) (fault : FileFault) (given : Answer)
+    → HasFault files name fault → IsRefusedText (refusal.First fault.cause) fault.text given
+    → AnswersAsked files (OfClaims name claims eps) given
+refused_product files name claims eps fault given has says =
+    record { case = FirstRefused fault; holds = inl (fault, has, refl); says = says }
 
 -- the file of claims is too long
 pub refused_claims : (files : Files) (name claims : List ℕ) (eps : ℤ) (product : Product) (seen : ℕ)
-    → HasProduct files name product → HasFault files claims (file.TooLong seen)
-    → AnswersAsked files (OfClaims name claims eps) (answer.Refused (refusal.Second (file.TooLong seen)))
-refused_claims files name claims eps product seen has fault = record {
-  case = SecondRefused (file.TooLong seen);
+    (refused : FileRefusal) (given : Answer) → HasProduct files name product → HasFault files claims (too_long seen)
+    → fault_in refused ≡ too_long seen → IsRefusedText (refusal.Second refused.cause) refused.text.items given
+    → AnswersAsked files (OfClaims name claims eps) given
+refused_claims files name claims eps product seen refused given has fault is says = record {
+  case = SecondRefused (too_long seen);
   holds = inr (product, has, inl (seen, fault, refl));
-  says = refl;
+  says = subst (λ (f : FileFault). IsRefusedText (refusal.Second f.cause) f.text given) is says;
 }
 
 -- its text is audited
@@ -82,7 +92,7 @@ audit_answers eps product text audited right =
 -- a text with a wrong row
 pub wrong_row_answers : (eps : ℤ) (product : Product) (text : List ℕ) (why : AuditError) (broken : RowBreak)
     → why ≡ error.Row broken → TellsWrongIn product.months product.states text why
-    → AnswersAudit eps product text (answer.Refused (refusal.Row broken))
+    → AnswersAudit eps product text (answer.Refused (refusal.Row table.Claims broken))
 wrong_row_answers eps product text why broken is tells =
     inl (record {
       broken = broken;

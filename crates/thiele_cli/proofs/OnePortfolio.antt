@@ -4,19 +4,18 @@ use Rattle.std.proofs.Common.{◌≡◌, ℕ, zero, suc, List, [], ◌∷◌, in
 use Rattle.model_specs.specs.Product.{Product}
 use Rattle.portfolio_run.specs.Holdings.{Holding}
 use Rattle.portfolio_run.proofs.OneCover.{covered_or_uncovered, one_uncovered}
-use Rattle.thiele_cli.specs.declared.file_break.FileBreak.{FileBreak}
-use Rattle.thiele_cli.specs.declared.policy_break.PolicyBreak.{PolicyBreak}
-use Rattle.thiele_cli.specs.Cases.{Case, WrongRow, IsCoverCase}
+use Rattle.thiele_cli.specs.FileFaults.{FileFault}
+use Rattle.thiele_cli.specs.Cases.{Case, PolicyRefused, WrongRow, IsCoverCase}
 use Rattle.thiele_cli.specs.Portfolios.{ComeTo, IsFirstRefused}
 
 -- a name comes to one thing
-pub record ComesToOne (HasIt : List ℕ → Product → Type 0) (HasFaultOf : List ℕ → FileBreak → Type 0) : Type 0 where
+pub record ComesToOne (HasIt : List ℕ → Product → Type 0) (HasFaultOf : List ℕ → FileFault → Type 0) : Type 0 where
   pub product : (name : List ℕ) (p q : Product) → HasIt name p → HasIt name q → p ≡ q
-  pub fault : (name : List ℕ) (a b : FileBreak) → HasFaultOf name a → HasFaultOf name b → a ≡ b
-  pub either : (name : List ℕ) (a : FileBreak) (p : Product) → HasFaultOf name a → HasIt name p → ⊥
+  pub fault : (name : List ℕ) (a b : FileFault) → HasFaultOf name a → HasFaultOf name b → a ≡ b
+  pub either : (name : List ℕ) (a : FileFault) (p : Product) → HasFaultOf name a → HasIt name p → ⊥
 
 -- names come to one list of products
-pub one_products : (HasIt : List ℕ → Product → Type 0) (HasFaultOf : List ℕ → FileBreak → Type 0)
+pub one_products : (HasIt : List ℕ → Product → Type 0) (HasFaultOf : List ℕ → FileFault → Type 0)
     (names : List (List ℕ)) (a b : List Product) → ComesToOne HasIt HasFaultOf → ComeTo HasIt names a
     → ComeTo HasIt names b → a ≡ b
 one_products HasIt HasFaultOf [] [] [] one x y = refl
@@ -30,17 +29,17 @@ one_products HasIt HasFaultOf (n ∷ ns) (p ∷ ps) (q ∷ qs) one x y =
     λ k. first k ∷ rest k
 
 -- or one is refused
-pub refused_or_products : (HasIt : List ℕ → Product → Type 0) (HasFaultOf : List ℕ → FileBreak → Type 0)
-    (names : List (List ℕ)) (place : ℕ) (cause : FileBreak) (products : List Product) → ComesToOne HasIt HasFaultOf
-    → IsFirstRefused HasIt HasFaultOf names place cause → ComeTo HasIt names products → ⊥
-refused_or_products HasIt HasFaultOf [] place cause products one x y = x
-refused_or_products HasIt HasFaultOf (n ∷ ns) place cause [] one x y = y
-refused_or_products HasIt HasFaultOf (n ∷ ns) zero cause (p ∷ ps) one x y = one.either n cause p x y.0
-refused_or_products HasIt HasFaultOf (n ∷ ns) (suc place) cause (p ∷ ps) one x y =
-    refused_or_products HasIt HasFaultOf ns place cause ps one x.1 y.1
+pub refused_or_products : (HasIt : List ℕ → Product → Type 0) (HasFaultOf : List ℕ → FileFault → Type 0)
+    (names : List (List ℕ)) (place : ℕ) (fault : FileFault) (products : List Product) → ComesToOne HasIt HasFaultOf
+    → IsFirstRefused HasIt HasFaultOf names place fault → ComeTo HasIt names products → ⊥
+refused_or_products HasIt HasFaultOf [] place fault products one x y = x
+refused_or_products HasIt HasFaultOf (n ∷ ns) place fault [] one x y = y
+refused_or_products HasIt HasFaultOf (n ∷ ns) zero fault (p ∷ ps) one x y = one.either n fault p x y.0
+refused_or_products HasIt HasFaultOf (n ∷ ns) (suc place) fault (p ∷ ps) one x y =
+    refused_or_products HasIt HasFaultOf ns place fault ps one x.1 y.1
 
-one_place : (HasIt : List ℕ → Product → Type 0) (HasFaultOf : List ℕ → FileBreak → Type 0)
-    (names : List (List ℕ)) (i j : ℕ) (a b : FileBreak) → ComesToOne HasIt HasFaultOf
+one_place : (HasIt : List ℕ → Product → Type 0) (HasFaultOf : List ℕ → FileFault → Type 0)
+    (names : List (List ℕ)) (i j : ℕ) (a b : FileFault) → ComesToOne HasIt HasFaultOf
     → IsFirstRefused HasIt HasFaultOf names i a → IsFirstRefused HasIt HasFaultOf names j b → (i ≡ j) × (a ≡ b)
 one_place HasIt HasFaultOf [] i j a b one x y = absurd x
 one_place HasIt HasFaultOf (n ∷ ns) zero zero a b one x y = (refl, one.fault n a b x y)
@@ -51,13 +50,13 @@ one_place HasIt HasFaultOf (n ∷ ns) (suc i) (suc j) a b one x y =
     (ap (λ k. suc k) rest.0, rest.1)
 
 -- the first that is refused is one
-pub one_refused : (HasIt : List ℕ → Product → Type 0) (HasFaultOf : List ℕ → FileBreak → Type 0)
-    (names : List (List ℕ)) (a b : PolicyBreak) → ComesToOne HasIt HasFaultOf
-    → IsFirstRefused HasIt HasFaultOf names a.file a.cause → IsFirstRefused HasIt HasFaultOf names b.file b.cause
-    → a ≡ b
-one_refused HasIt HasFaultOf names a b one x y =
-    let same = one_place HasIt HasFaultOf names a.file b.file a.cause b.cause one x y in
-    λ k. record { file = same.0 k; cause = same.1 k }
+pub one_refused : (HasIt : List ℕ → Product → Type 0) (HasFaultOf : List ℕ → FileFault → Type 0)
+    (names : List (List ℕ)) (i j : ℕ) (a b : FileFault) → ComesToOne HasIt HasFaultOf
+    → IsFirstRefused HasIt HasFaultOf names i a → IsFirstRefused HasIt HasFaultOf names j b
+    → PolicyRefused i a ≡ PolicyRefused j b
+one_refused HasIt HasFaultOf names i j a b one x y =
+    let same = one_place HasIt HasFaultOf names i j a b one x y in
+    λ k. PolicyRefused (same.0 k) (same.1 k)
 
 -- holdings with these products come to one case
 pub one_cover_case : (holdings : List Holding) (products : List Product) (a b : Case)

@@ -15,18 +15,19 @@ use Rattle.portfolio_run.specs.Readings.{AreHoldingsIn, TellsWrongIn, files_of}
 use Rattle.portfolio_run.specs.Stored.{AddsValued, Portfolio, name_at}
 use Rattle.portfolio_run.specs.Totals.{AreTotals, TellsUncovered}
 use Rattle.portfolio_run.specs.Values.{IsValued}
+use Rattle.refusal_words.specs.declared.row_texts.CsvTable.TheVariants as table
 use Rattle.thiele_cli.specs.declared.answer.Answer.TheVariants as answer
-use Rattle.thiele_cli.specs.declared.file_break.FileBreak.{FileBreak}
-use Rattle.thiele_cli.specs.declared.policy_break.PolicyBreak.{PolicyBreak}
+use Rattle.thiele_cli.specs.declared.file_break.FileRefusal.{FileRefusal}
 use Rattle.thiele_cli.specs.declared.refusal.Refusal.TheVariants as refusal
 use Rattle.thiele_cli.specs.declared.answer.Answer.{Answer}
-use Rattle.thiele_cli.specs.declared.file_break.FileBreak.TheVariants as file
+use Rattle.thiele_cli.specs.FileFaults.{FileFault, fault_in, too_long}
 use Rattle.thiele_cli.specs.AskedAnswers.{AnswersAsked}
 use Rattle.thiele_cli.specs.Cases.{Files, AreBytesOf, HasFault, HasProduct}
 use Rattle.thiele_cli.specs.Cases.{FirstRefused, WrongRow, PolicyRefused, SummedUp}
 use Rattle.thiele_cli.specs.Questions.{OfPortfolio}
 use Rattle.thiele_cli.specs.PortfolioFiles.{AnswersText, AreAllValued, AreValued, IsNext, next_name}
 use Rattle.thiele_cli.specs.Portfolios.{ComeTo, IsFirstRefused}
+use Rattle.thiele_cli.specs.Replies.{IsRefusedText}
 
 -- ---- names and products
 
@@ -41,15 +42,15 @@ come_to_more HasIt (n ∷ ns) (p ∷ ps) name product so_far has =
     (so_far.0, come_to_more HasIt ns ps name product so_far.1 has)
 
 -- the name behind names that have products is the first that is refused
-pub refused_behind : (HasIt : List ℕ → Product → Type 0) (HasFaultOf : List ℕ → FileBreak → Type 0)
-    (names : List (List ℕ)) (place : ℕ) (products : List Product) (cause : FileBreak) → place < length names
-    → ComeTo HasIt (take place names) products → HasFaultOf (name_at names place) cause
-    → IsFirstRefused HasIt HasFaultOf names place cause
-refused_behind HasIt HasFaultOf [] place products cause inside so_far fault = absurd (omega (arith, inside))
-refused_behind HasIt HasFaultOf (n ∷ ns) zero products cause inside so_far fault = fault
-refused_behind HasIt HasFaultOf (n ∷ ns) (suc place) [] cause inside so_far fault = absurd so_far
-refused_behind HasIt HasFaultOf (n ∷ ns) (suc place) (p ∷ ps) cause inside so_far fault =
-    ((p, so_far.0), refused_behind HasIt HasFaultOf ns place ps cause (omega (arith, inside)) so_far.1 fault)
+pub refused_behind : (HasIt : List ℕ → Product → Type 0) (HasFaultOf : List ℕ → FileFault → Type 0)
+    (names : List (List ℕ)) (place : ℕ) (products : List Product) (fault : FileFault) → place < length names
+    → ComeTo HasIt (take place names) products → HasFaultOf (name_at names place) fault
+    → IsFirstRefused HasIt HasFaultOf names place fault
+refused_behind HasIt HasFaultOf [] place products fault inside so_far has = absurd (omega (arith, inside))
+refused_behind HasIt HasFaultOf (n ∷ ns) zero products fault inside so_far has = has
+refused_behind HasIt HasFaultOf (n ∷ ns) (suc place) [] fault inside so_far has = absurd so_far
+refused_behind HasIt HasFaultOf (n ∷ ns) (suc place) (p ∷ ps) fault inside so_far has =
+    ((p, so_far.0), refused_behind HasIt HasFaultOf ns place ps fault (omega (arith, inside)) so_far.1 has)
 
 -- ---- files
 
@@ -101,22 +102,23 @@ valued_more files old new product inside are has adds =
     }
 
 -- the next file is the first that is refused
-pub next_is_refused : (given files : Files) (start old new : Portfolio) (next : Option FileBreak) (cause : FileBreak)
-    (place : ℕ) → given ≡ files → old.holdings ≡ start.holdings → length old.valued ≡ place
-    → place < length (files_of start.holdings) → AreValued files old → next ≡ Some cause → IsNext given old new next
-    → IsFirstRefused (HasProduct files) (HasFault files) (files_of start.holdings) place cause
-next_is_refused given files start old new next cause place same holdings count inside are is says =
-    let fault : HasFault files (next_name old) cause =
-    subst (λ f. HasFault f (next_name old) cause) same (subst (IsNext given old new) is says) in
+pub next_is_refused : (given files : Files) (start old new : Portfolio) (next : Option FileRefusal)
+    (refused : FileRefusal) (place : ℕ) → given ≡ files → old.holdings ≡ start.holdings → length old.valued ≡ place
+    → place < length (files_of start.holdings) → AreValued files old → next ≡ Some refused → IsNext given old new next
+    → IsFirstRefused (HasProduct files) (HasFault files) (files_of start.holdings) place (fault_in refused)
+next_is_refused given files start old new next refused place same holdings count inside are is says =
+    let fault = fault_in refused in
+    let has : HasFault files (next_name old) fault =
+    subst (λ f. HasFault f (next_name old) fault) same (subst (IsNext given old new) is says) in
     let within : place < length (files_of old.holdings) =
     subst (λ h. place < length (files_of h)) (sym holdings) inside in
-    subst (λ h. IsFirstRefused (HasProduct files) (HasFault files) (files_of h) place cause) holdings
-    (subst (λ k. IsFirstRefused (HasProduct files) (HasFault files) (files_of old.holdings) k cause) count
-    (refused_behind (HasProduct files) (HasFault files) (files_of old.holdings) (length old.valued) are.products cause
-    (omega (arith, within, count)) are.come_to fault))
+    subst (λ h. IsFirstRefused (HasProduct files) (HasFault files) (files_of h) place fault) holdings
+    (subst (λ k. IsFirstRefused (HasProduct files) (HasFault files) (files_of old.holdings) k fault) count
+    (refused_behind (HasProduct files) (HasFault files) (files_of old.holdings) (length old.valued) are.products fault
+    (omega (arith, within, count)) are.come_to has))
 
 -- or it is valued
-pub next_is_valued : (given files : Files) (start old new : Portfolio) (next : Option FileBreak) (place : ℕ)
+pub next_is_valued : (given files : Files) (start old new : Portfolio) (next : Option FileRefusal) (place : ℕ)
     → given ≡ files → old.holdings ≡ start.holdings → length old.valued ≡ place
     → place < length (files_of start.holdings) → AreValued files old → next ≡ None → IsNext given old new next
     → (new.holdings ≡ start.holdings) × (length new.valued ≡ place + 1) × AreValued files new
@@ -134,16 +136,17 @@ next_is_valued given files start old new next place same holdings count inside a
 
 -- a row is wrong by itself
 pub wrong_row : (files : Files) (text : List ℕ) (broken : RowBreak) → TellsWrongIn text (error.Row broken)
-    → AnswersText files text (answer.Refused (refusal.Row broken))
+    → AnswersText files text (answer.Refused (refusal.Row table.Holdings broken))
 wrong_row files text broken wrong = (WrongRow broken, inl (broken, wrong, refl), refl)
 
 -- a file is refused
-pub file_refused : (files : Files) (text : List ℕ) (portfolio : Portfolio) (broken : PolicyBreak)
-    → AreHoldingsIn text portfolio.holdings
-    → IsFirstRefused (HasProduct files) (HasFault files) (files_of portfolio.holdings) broken.file broken.cause
-    → AnswersText files text (answer.Refused (refusal.Policy broken))
-file_refused files text portfolio broken are first =
-    (PolicyRefused broken, inr (portfolio.holdings, are, inl (broken, first, refl)), refl)
+pub file_refused : (files : Files) (text : List ℕ) (portfolio : Portfolio) (place : ℕ) (fault : FileFault)
+    (given : Answer) → AreHoldingsIn text portfolio.holdings
+    → IsFirstRefused (HasProduct files) (HasFault files) (files_of portfolio.holdings) place fault
+    → IsRefusedText (refusal.Policy (record { file = place; cause = fault.cause })) fault.text given
+    → AnswersText files text given
+file_refused files text portfolio place fault given are first says =
+    (PolicyRefused place fault, inr (portfolio.holdings, are, inl (place, fault, first, refl)), says)
 
 -- the products of all files
 all_products : (files : Files) (old new : Portfolio) → (all : AreAllValued files old new)
@@ -183,7 +186,7 @@ summed_up files text old new totals are all right = (
 -- a row whose product has not its date or its state
 pub uncovered_row : (files : Files) (text : List ℕ) (old new : Portfolio) (broken : RowBreak)
     → AreHoldingsIn text old.holdings → AreAllValued files old new → TellsUncovered new (error.Row broken)
-    → AnswersText files text (answer.Refused (refusal.Row broken))
+    → AnswersText files text (answer.Refused (refusal.Row table.Holdings broken))
 uncovered_row files text old new broken are all tells = (
   WrongRow broken,
   inr (
@@ -213,7 +216,12 @@ text_is_asked given files csv text shown answer same is bytes says =
     record { case = at.0; holds = inr (text, bytes, at.1); says = at.2 }
 
 -- a file that is too long
-pub too_long : (files : Files) (csv : List ℕ) (seen : ℕ) → HasFault files csv (file.TooLong seen)
-    → AnswersAsked files (OfPortfolio csv) (answer.Refused (refusal.First (file.TooLong seen)))
-too_long files csv seen fault =
-    record { case = FirstRefused (file.TooLong seen); holds = inl (seen, fault, refl); says = refl }
+pub long_portfolio : (files : Files) (csv : List ℕ) (seen : ℕ) (refused : FileRefusal) (given : Answer)
+    → HasFault files csv (too_long seen) → fault_in refused ≡ too_long seen
+    → IsRefusedText (refusal.First refused.cause) refused.text.items given
+    → AnswersAsked files (OfPortfolio csv) given
+long_portfolio files csv seen refused given fault is says = record {
+  case = FirstRefused (too_long seen);
+  holds = inl (seen, fault, refl);
+  says = subst (λ (f : FileFault). IsRefusedText (refusal.First f.cause) f.text given) is says;
+}

@@ -10,8 +10,9 @@ use Rattle.rule_breaks.specs.Breaks.{break_of}
 use Rattle.product_file.specs.Verdict.{ReadsAs, ReadsProduct, BreaksInTree, IsNotToml, IsValid, Breaks}
 use Rattle.thiele_cli.specs.declared.file_break.FileBreak.{FileBreak}
 use Rattle.thiele_cli.specs.declared.file_break.FileBreak.TheVariants as file
+use Rattle.thiele_cli.specs.declared.file_break.FileRefusal.{FileRefusal}
 use Rattle.thiele_cli.specs.declared.verdict.Verdict.TheVariants as verdict
-use Rattle.thiele_cli.specs.Verdicts.{IsVerdictOn}
+use Rattle.thiele_cli.specs.Verdicts.{AreRefusedBy, IsVerdictOn}
 
 -- a reading is one thing
 ok-or-err : (r : Result Product RuleBreak) (p : Product) (b : RuleBreak) → r ≡ Ok p → r ≡ Err b → ⊥
@@ -76,8 +77,11 @@ breaks_later bytes product found reads broken = inr (product, reads, broken)
 pub one_valid : (bytes : List ℕ) (p q : Product) → IsValid bytes p → IsValid bytes q → p ≡ q
 one_valid bytes p q x y = one-product bytes p q x.reads y.reads
 
-pub not_refused : (bytes : List ℕ) (p : Product) (cause : FileBreak) → IsValid bytes p
-    → IsVerdictOn bytes (verdict.Refused cause) → ⊥
-not_refused bytes p (file.TooLong seen) valid says = says
-not_refused bytes p file.NotToml valid says = toml-or-valid bytes p says valid
-not_refused bytes p (file.Rule found) valid says = valid-or-broken bytes p (break_of found) valid says
+no_cause : (bytes : List ℕ) (p : Product) (cause : FileBreak) → IsValid bytes p → AreRefusedBy bytes cause → ⊥
+no_cause bytes p (file.TooLong seen) valid says = says
+no_cause bytes p file.NotToml valid says = toml-or-valid bytes p says valid
+no_cause bytes p (file.Rule found) valid says = valid-or-broken bytes p (break_of found) valid says
+
+pub not_refused : (bytes : List ℕ) (p : Product) (refused : FileRefusal) → IsValid bytes p
+    → IsVerdictOn bytes (verdict.Refused refused) → ⊥
+not_refused bytes p refused valid says = no_cause bytes p refused.cause valid says.1

@@ -5,6 +5,7 @@ use Rattle.model_specs.specs.Product.{Product}
 use Rattle.claim_audit.specs.declared.auditing.Audited.{Audited}
 use Rattle.claim_audit.specs.Audits.{IsAudit}
 use Rattle.claim_audit.specs.Readings.{IsFirstWrongIn}
+use Rattle.refusal_words.specs.declared.row_texts.CsvTable.TheVariants as table
 use Rattle.thiele_cli.specs.declared.answer.Answer.{Answer}
 use Rattle.thiele_cli.specs.declared.answer.Answer.TheVariants as answer
 use Rattle.thiele_cli.specs.declared.refusal.Refusal.TheVariants as refusal
@@ -17,7 +18,7 @@ pub record IsDistance (eps : ℤ) : Type 0 where
 -- a text with a wrong row is refused by the first such row and its first wrong part
 pub record HasWrongRow (product : Product) (text : List ℕ) (given : Answer) : Type 0 where
   pub broken : RowBreak
-  pub answers : given ≡ answer.Refused (refusal.Row broken)
+  pub answers : given ≡ answer.Refused (refusal.Row table.Claims broken)
   pub first : IsFirstWrongIn product.months product.states text broken.row broken.part
 
 -- the claims of all others are audited, in their order, and each mark implies nearness to the exact reserve

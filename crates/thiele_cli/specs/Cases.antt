@@ -1,11 +1,15 @@
 -- What the words and the files that they name come to, for the files that a shelf tells.
-use Rattle.std.specs.Prelude.{◌≡◌, ◌⊎◌, ℕ, ◌+◌, ◌≤◌, ℤ, List, ⊤, Option, Some, None, length}
+use Rattle.std.specs.Prelude.{◌≡◌, ◌⊎◌, ℕ, ◌+◌, ◌≤◌, ℤ, List, [], ◌∷◌, ⊤, Option, Some, None, length}
+use Rattle.std.specs.Prelude.{Bool, false, bytes_eq, codes, if◌then◌else◌}
 use Rattle.named_numbers.specs.Numbers.{most_file_bytes}
 use Rattle.io_ports.specs.Files.{file_of, IsLonger}
 use Rattle.rule_breaks.specs.Breaks.{break_of}
 use Rattle.model_specs.specs.Product.{Product}
 use Rattle.product_file.specs.Verdict.{IsNotToml, IsValid, Breaks}
-use Rattle.command_words.specs.Readings.{Request, AreReadAs, HaveReading}
+use Rattle.command_words.specs.declared.form.Form.{Form}
+use Rattle.command_words.specs.declared.form.Form.TheVariants as forms
+use Rattle.command_words.specs.Readings.{Request}
+use Rattle.command_words.specs.Forms.{AreReadIn, HaveReading}
 use Rattle.thiele_cli.specs.declared.file_break.FileBreak.{FileBreak}
 use Rattle.thiele_cli.specs.declared.file_break.FileBreak.TheVariants as file
 use Rattle.thiele_cli.specs.declared.question.Question.{Question}
@@ -13,9 +17,11 @@ use Rattle.thiele_cli.specs.declared.pair_question.PairQuestion.{PairQuestion}
 use Rattle.rule_breaks.specs.declared.breaks.RowBreak.{RowBreak}
 use Rattle.portfolio_run.specs.Holdings.{Holding}
 use Rattle.portfolio_run.specs.Readings.{AreHoldingsIn, files_of}
-use Rattle.thiele_cli.specs.declared.policy_break.PolicyBreak.{PolicyBreak}
+use Rattle.thiele_cli.specs.FileFaults.{FileFault, too_long}
 use Rattle.thiele_cli.specs.Portfolios.{ComeTo, IsFirstRefused, IsWrongRow, IsUncoveredRow, AreCovered, NamesFile}
-use Rattle.thiele_cli.specs.Questions.{Asked, OfFile, OfFiles, OfSeed, LoadOf, OfClaims, OfPortfolio, asked_of}
+use Rattle.thiele_cli.specs.declared.page.Page.{Page}
+use Rattle.thiele_cli.specs.Questions.{Asked, OfFile, OfFiles, OfSeed, LoadOf, OfClaims, OfPortfolio, OfChange}
+use Rattle.thiele_cli.specs.Questions.{Change, OfPage, OfShards, asked_of}
 
 -- what a shelf tells of its files: the names with their bytes, or nothing
 abbrev pub Files : Type 0
@@ -36,12 +42,16 @@ pub record AreBytesOf (files : Files) (name bytes : List ℕ) : Type 0 where
   pub told : AreTold files name bytes
   pub short : length bytes ≤ most_file_bytes
 
--- the file of that name is refused: it is too long, it is no TOML, or it breaks this rule first
-abbrev pub HasFault : Files → List ℕ → FileBreak → Type 0
-HasFault files name (file.TooLong seen) = IsLong files name × (seen ≡ most_file_bytes + 1)
-HasFault files name file.NotToml = (bytes : List ℕ) × AreBytesOf files name bytes × IsNotToml bytes
-HasFault files name (file.Rule found) =
-    (bytes : List ℕ) × AreBytesOf files name bytes × Breaks bytes (break_of found)
+-- the file of that name is refused by this cause, and has this text: it is too long, it is no TOML, or it breaks this
+-- rule first
+abbrev pub IsRefusedBy : Files → List ℕ → FileBreak → List ℕ → Type 0
+IsRefusedBy files name (file.TooLong seen) text = IsLong files name × (seen ≡ most_file_bytes + 1) × (text ≡ [])
+IsRefusedBy files name file.NotToml text = AreBytesOf files name text × IsNotToml text
+IsRefusedBy files name (file.Rule found) text = AreBytesOf files name text × Breaks text (break_of found)
+
+-- the file of that name has this fault
+abbrev pub HasFault : Files → List ℕ → FileFault → Type 0
+HasFault files name fault = IsRefusedBy files name fault.cause fault.text
 
 -- the file of that name has this product, which breaks no rule
 abbrev pub HasProduct : Files → List ℕ → Product → Type 0
@@ -49,25 +59,29 @@ HasProduct files name product = (bytes : List ℕ) × AreBytesOf files name byte
 
 -- what words and files come to: no reading, a seed whose file or whose reserves are asked for, a first or a second
 -- file that is refused, a question about a product or about two that break no rule, or a distance, such a product and
--- the text of claims about it; of a portfolio a row that is wrong, a product file that is refused, or holdings and the
--- products of their files
+-- the text of claims about it; of a portfolio a row that is wrong, a product file that is refused, by its place
+-- among the different ones, or holdings and the products of their files; a change that is asked of a product that
+-- breaks no rule; the text of sums that are to be merged; or what the program tells of itself
 pub data Case : Type 0 where
   NoReading : Case
   Generated : ℕ → Case
   Loaded : ℕ → Case
   WrongRow : RowBreak → Case
-  PolicyRefused : PolicyBreak → Case
+  PolicyRefused : ℕ → FileFault → Case
   SummedUp : List Holding → List Product → Case
-  FirstRefused : FileBreak → Case
-  SecondRefused : FileBreak → Case
+  FirstRefused : FileFault → Case
+  SecondRefused : FileFault → Case
   Answered : Question → Product → Case
   AnsweredOfTwo : PairQuestion → Product → Product → Case
   AnsweredOfClaims : ℤ → Product → List ℕ → Case
+  AnsweredOfChange : Change → Product → Case
+  AnsweredOfShards : List ℕ → Case
+  Told : Page → Case
 
 -- what a product file comes to: it is refused, or it has a product that comes to the rest
-abbrev pub IsFileCase : Files → List ℕ → (FileBreak → Case) → (Product → Case → Type 0) → Case → Type 0
+abbrev pub IsFileCase : Files → List ℕ → (FileFault → Case) → (Product → Case → Type 0) → Case → Type 0
 IsFileCase files name refused IsRest case =
-    ((cause : FileBreak) × HasFault files name cause × (case ≡ refused cause))
+    ((fault : FileFault) × HasFault files name fault × (case ≡ refused fault))
     ⊎ ((product : Product) × HasProduct files name product × IsRest product case)
 
 -- what a second product file comes to, where this is asked of it and a first product
@@ -76,9 +90,9 @@ IsSecondCase files what name old case =
     IsFileCase files name SecondRefused (λ new rest. rest ≡ AnsweredOfTwo what old new) case
 
 -- what a file comes to that is no product file: it is too long, or it has a text that comes to the rest
-abbrev pub IsTextCase : Files → List ℕ → (FileBreak → Case) → (List ℕ → Case → Type 0) → Case → Type 0
+abbrev pub IsTextCase : Files → List ℕ → (FileFault → Case) → (List ℕ → Case → Type 0) → Case → Type 0
 IsTextCase files name refused IsRest case =
-    ((seen : ℕ) × HasFault files name (file.TooLong seen) × (case ≡ refused (file.TooLong seen)))
+    ((seen : ℕ) × HasFault files name (too_long seen) × (case ≡ refused (too_long seen)))
     ⊎ ((text : List ℕ) × AreBytesOf files name text × IsRest text case)
 
 -- what a file of claims comes to, where a distance is asked of it and a product
@@ -96,8 +110,9 @@ IsCoverCase holdings products case =
 -- what holdings come to: the first of their different files that is refused, or each file has a product
 abbrev pub IsHoldingsCase : Files → List Holding → Case → Type 0
 IsHoldingsCase files holdings case =
-    ((broken : PolicyBreak) × IsFirstRefused (HasProduct files) (HasFault files) (files_of holdings) broken.file
-    broken.cause × (case ≡ PolicyRefused broken))
+    ((place : ℕ) × (fault : FileFault)
+    × IsFirstRefused (HasProduct files) (HasFault files) (files_of holdings) place fault
+    × (case ≡ PolicyRefused place fault))
     ⊎ ((products : List Product) × ComeTo (HasProduct files) (files_of holdings) products
     × IsCoverCase holdings products case)
 
@@ -118,12 +133,26 @@ IsAskedCase files (LoadOf seed) case = case ≡ Loaded seed
 IsAskedCase files (OfClaims name claims eps) case =
     IsFileCase files name FirstRefused (IsClaimsCase files eps claims) case
 IsAskedCase files (OfPortfolio csv) case = IsTextCase files csv FirstRefused (IsPoliciesCase files) case
+IsAskedCase files (OfChange name change) case =
+    IsFileCase files name FirstRefused (λ product rest. rest ≡ AnsweredOfChange change product) case
+IsAskedCase files (OfShards csv) case =
+    IsTextCase files csv FirstRefused (λ text rest. rest ≡ AnsweredOfShards text) case
+IsAskedCase files (OfPage page) case = case ≡ Told page
 
--- what the words come to: they have no reading, or they are read as this request
-abbrev pub IsCase : Files → List (List ℕ) → Case → Type 0
-IsCase files words case =
-    ((¬ HaveReading words) × (case ≡ NoReading))
-    ⊎ ((request : Request) × AreReadAs words request × IsAskedCase files (asked_of request) case)
+-- the words begin with that of an explanation
+abbrev pub begin_so : List (List ℕ) → Bool
+begin_so [] = false
+begin_so (word ∷ words) = bytes_eq word (codes "explain")
+
+-- the form in which words without a reading are refused: explained where they begin so
+abbrev pub form_of_none : List (List ℕ) → Form
+form_of_none words = if begin_so words then forms.Explained else forms.Report
+
+-- what the words come to, and in which form: they have no reading, or they are read as this request
+abbrev pub IsCase : Files → List (List ℕ) → Form → Case → Type 0
+IsCase files words form case =
+    ((¬ HaveReading words) × (form ≡ form_of_none words) × (case ≡ NoReading))
+    ⊎ ((request : Request) × AreReadIn words form request × IsAskedCase files (asked_of request) case)
 
 -- a holding of the portfolio in that file names this file
 abbrev pub IsNamedIn : Files → (csv name : List ℕ) → Type 0
@@ -137,7 +166,11 @@ IsAskedOf files (OfSeed seed) file = ⊥
 IsAskedOf files (LoadOf seed) file = ⊥
 IsAskedOf files (OfClaims name claims eps) file = (file ≡ name) ⊎ (file ≡ claims)
 IsAskedOf files (OfPortfolio csv) file = (file ≡ csv) ⊎ IsNamedIn files csv file
+IsAskedOf files (OfChange name change) file = file ≡ name
+IsAskedOf files (OfShards csv) file = file ≡ csv
+IsAskedOf files (OfPage page) file = ⊥
 
 -- the words ask something of this file, or of one that a portfolio names of which they ask
 abbrev pub AskAbout : Files → List (List ℕ) → List ℕ → Type 0
-AskAbout files words file = (request : Request) × AreReadAs words request × IsAskedOf files (asked_of request) file
+AskAbout files words file =
+    (form : Form) × (request : Request) × AreReadIn words form request × IsAskedOf files (asked_of request) file

@@ -1,5 +1,6 @@
 -- The ends of a run, what each of them comes by, and the names whose fetch failed.
 use Rattle.std.specs.Prelude.{◌≡◌, ◌≢◌, ◌⊎◌, ℕ, List, [], ◌∷◌, ◌++◌, IsSome, ⊤}
+use Rattle.command_words.specs.declared.form.Form.{Form}
 use Rattle.thiele_cli.specs.declared.answer.Answer.{Answer}
 use Rattle.thiele_cli.specs.declared.end.End.{End}
 use Rattle.thiele_cli.specs.declared.end.End.TheVariants as end
@@ -25,6 +26,7 @@ status_of (end.Derived found) = 13
 status_of (end.Compare broken) = 16
 status_of (end.Row broken) = 14
 status_of (end.Policy broken) = 15
+status_of (end.Change broken) = 17
 
 -- what is handed back beside the report is there
 abbrev pub IsExtra : Extra → Type 0
@@ -40,34 +42,38 @@ IsFault end.WriteFault = ⊤
 IsFault end.Memory = ⊤
 IsFault _ = ⊥
 
--- the words and the files come to a case with this answer
-pub record IsAnswer (files : Files) (words : List (List ℕ)) (given : Answer) : Type 0 where
+-- in this form the words and the files come to a case with this answer
+pub record IsAnswer (files : Files) (words : List (List ℕ)) (form : Form) (given : Answer) : Type 0 where
   pub case : Case
-  pub holds : IsCase files words case
+  pub holds : IsCase files words form case
   pub says : Answers case given
 
 -- they come to a case with an answer of this end
 pub record EndBy (files : Files) (words : List (List ℕ)) (own : End) : Type 0 where
+  pub form : Form
   pub given : Answer
-  pub is_answer : IsAnswer files words given
+  pub is_answer : IsAnswer files words form given
   pub ends : own ≡ end_of given
 
 -- they come to a case whose every answer has this end
 pub record LeadTo (files : Files) (words : List (List ℕ)) (own : End) : Type 0 where
+  pub form : Form
   pub case : Case
-  pub holds : IsCase files words case
+  pub holds : IsCase files words form case
   pub leads : (given : Answer) → Answers case given → end_of given ≡ own
 
 -- they come to a case whose every answer is a report
 pub record LeadToReport (files : Files) (words : List (List ℕ)) : Type 0 where
+  pub form : Form
   pub case : Case
-  pub holds : IsCase files words case
+  pub holds : IsCase files words form case
   pub reports : (given : Answer) → Answers case given → IsSome (report_of given)
 
 -- they come to a case whose every answer has a result of its own kind
 pub record LeadToExtra (files : Files) (words : List (List ℕ)) : Type 0 where
+  pub form : Form
   pub case : Case
-  pub holds : IsCase files words case
+  pub holds : IsCase files words form case
   pub has : (given : Answer) → Answers case given → IsExtra (extra_of given)
 
 -- the end comes only by a case with such an answer; and where the files are told and no fetch failed, a case that leads

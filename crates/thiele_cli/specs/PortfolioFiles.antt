@@ -5,8 +5,9 @@ use Rattle.portfolio_run.specs.Readings.{files_of}
 use Rattle.portfolio_run.specs.Stored.{AddsValued, Portfolio, name_at}
 use Rattle.portfolio_run.specs.Values.{IsValued}
 use Rattle.thiele_cli.specs.declared.answer.Answer.{Answer}
-use Rattle.thiele_cli.specs.declared.file_break.FileBreak.{FileBreak}
-use Rattle.thiele_cli.specs.declared.policy_break.PolicyBreak.{PolicyBreak}
+use Rattle.thiele_cli.specs.declared.file_break.FileRefusal.{FileRefusal}
+use Rattle.thiele_cli.specs.declared.policy_break.PolicyRefusal.{PolicyRefusal}
+use Rattle.thiele_cli.specs.FileFaults.{fault_in}
 use Rattle.thiele_cli.specs.Cases.{Files, HasFault, HasProduct, Case, IsPoliciesCase}
 use Rattle.thiele_cli.specs.Portfolios.{AreProductsOf, ComeTo, IsFirstRefused}
 use Rattle.thiele_cli.specs.Replies.{Answers}
@@ -22,11 +23,11 @@ pub record AreValued (files : Files) (portfolio : Portfolio) : Type 0 where
   pub products_are : AreProductsOf portfolio.valued products
   pub tables : All IsValued portfolio.valued
 
--- the next file of a portfolio has a product and is valued by it, or it is refused by a cause
-abbrev pub IsNext : Files → (old new : Portfolio) → Option FileBreak → Type 0
+-- the next file of a portfolio has a product and is valued by it, or it is refused
+abbrev pub IsNext : Files → (old new : Portfolio) → Option FileRefusal → Type 0
 IsNext files old new None =
     (product : Product) × HasProduct files (next_name old) product × AddsValued product old new
-IsNext files old new (Some cause) = HasFault files (next_name old) cause
+IsNext files old new (Some refused) = HasFault files (next_name old) (fault_in refused)
 
 -- all files of a portfolio are valued
 pub record AreAllValued (files : Files) (old new : Portfolio) : Type 0 where
@@ -35,10 +36,10 @@ pub record AreAllValued (files : Files) (old new : Portfolio) : Type 0 where
   pub valued : AreValued files new
 
 -- all files of a portfolio are valued, or one is the first that is refused
-abbrev pub IsLast : Files → (old new : Portfolio) → Option PolicyBreak → Type 0
+abbrev pub IsLast : Files → (old new : Portfolio) → Option PolicyRefusal → Type 0
 IsLast files old new None = AreAllValued files old new
-IsLast files old new (Some broken) =
-    IsFirstRefused (HasProduct files) (HasFault files) (files_of old.holdings) broken.file broken.cause
+IsLast files old new (Some refused) =
+    IsFirstRefused (HasProduct files) (HasFault files) (files_of old.holdings) refused.file (fault_in refused.refused)
 
 -- the answer to the text of a portfolio
 abbrev pub AnswersText : Files → (text : List ℕ) → Answer → Type 0

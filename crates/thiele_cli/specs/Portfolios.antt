@@ -11,7 +11,7 @@ use Rattle.portfolio_run.specs.Totals.{AreTotals, HasItsReserve, TellsUncovered}
 use Rattle.portfolio_run.specs.Values.{IsValued, ValuedProduct}
 use Rattle.thiele_cli.specs.declared.answer.Answer.{Answer}
 use Rattle.thiele_cli.specs.declared.answer.Answer.TheVariants as answer
-use Rattle.thiele_cli.specs.declared.file_break.FileBreak.{FileBreak}
+use Rattle.thiele_cli.specs.FileFaults.{FileFault}
 
 -- names come to these products, each to its own, in their order
 abbrev pub ComeTo : (HasProduct : List ℕ → Product → Type 0) → List (List ℕ) → List Product → Type 0
@@ -20,13 +20,13 @@ ComeTo HasProduct [] (product ∷ products) = ⊥
 ComeTo HasProduct (name ∷ names) [] = ⊥
 ComeTo HasProduct (name ∷ names) (product ∷ products) = HasProduct name product × ComeTo HasProduct names products
 
--- the file at this place is refused by this cause, and each one before it has a product
-abbrev pub IsFirstRefused : (HasProduct : List ℕ → Product → Type 0) → (HasFault : List ℕ → FileBreak → Type 0)
-    → List (List ℕ) → (place : ℕ) → FileBreak → Type 0
-IsFirstRefused HasProduct HasFault [] place cause = ⊥
-IsFirstRefused HasProduct HasFault (name ∷ names) zero cause = HasFault name cause
-IsFirstRefused HasProduct HasFault (name ∷ names) (suc place) cause =
-    ((product : Product) × HasProduct name product) × IsFirstRefused HasProduct HasFault names place cause
+-- the file at this place has this fault, and each one before it has a product
+abbrev pub IsFirstRefused : (HasProduct : List ℕ → Product → Type 0) → (HasFault : List ℕ → FileFault → Type 0)
+    → List (List ℕ) → (place : ℕ) → FileFault → Type 0
+IsFirstRefused HasProduct HasFault [] place fault = ⊥
+IsFirstRefused HasProduct HasFault (name ∷ names) zero fault = HasFault name fault
+IsFirstRefused HasProduct HasFault (name ∷ names) (suc place) fault =
+    ((product : Product) × HasProduct name product) × IsFirstRefused HasProduct HasFault names place fault
 
 -- this row of a text is the first that is wrong by itself, and this its first part that is
 abbrev pub IsWrongRow : (text : List ℕ) → RowBreak → Type 0

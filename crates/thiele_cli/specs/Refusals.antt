@@ -27,8 +27,9 @@ refused_end (refusal.Premium low) = end.NoPremium low
 refused_end (refusal.Join broken) = end.Join broken
 refused_end (refusal.Derived found) = end.Derived found
 refused_end (refusal.Compare broken) = end.Compare broken
-refused_end (refusal.Row broken) = end.Row broken
+refused_end (refusal.Row table broken) = end.Row broken
 refused_end (refusal.Policy broken) = end.Policy broken
+refused_end (refusal.Change broken) = end.Change broken
 
 -- rule K place P
 abbrev pub rule_words : RuleBreak → List ℕ
@@ -63,5 +64,6 @@ line_of (refusal.Premium low) = premium_line low
 line_of (refusal.Join broken) = codes "refused join part " ++ decimal broken.part ++ codes "\n"
 line_of (refusal.Derived found) = codes "refused derived " ++ rule_words found ++ codes "\n"
 line_of (refusal.Compare broken) = codes "refused compare part " ++ decimal broken.part ++ codes "\n"
-line_of (refusal.Row broken) = row_line broken
+line_of (refusal.Row table broken) = row_line broken
 line_of (refusal.Policy broken) = policy_line broken
+line_of (refusal.Change broken) = codes "refused change part " ++ decimal broken.part ++ codes "\n"

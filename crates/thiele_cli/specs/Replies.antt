@@ -20,6 +20,7 @@ use Rattle.portfolio_run.specs.TotalsText as totals_texts
 use Rattle.portfolio_run.specs.TotalsText.{totals_text}
 use Rattle.workload_gen.specs.Laws.{generated_product}
 use Rattle.workload_gen.specs.Tree.{generated}
+use Rattle.refusal_words.specs.declared.row_texts.CsvTable.TheVariants as table
 use Rattle.thiele_cli.specs.declared.end.End.{End}
 use Rattle.thiele_cli.specs.declared.end.End.TheVariants as end
 use Rattle.thiele_cli.specs.declared.end.Extra.{Extra}
@@ -36,13 +37,17 @@ use Rattle.thiele_cli.specs.Refusals.{refused_end, line_of}
 use Rattle.thiele_cli.specs.Premiums.{HasClosePremium}
 use Rattle.thiele_cli.specs.MonthGrids.{IsReserveReport}
 use Rattle.thiele_cli.specs.Audits.{AnswersAudit}
+use Rattle.thiele_cli.specs.ChangedFiles.{AnswersChange}
 use Rattle.thiele_cli.specs.Comparisons.{AnswersComparison}
 use Rattle.thiele_cli.specs.JointFiles.{AnswersJoin}
 use Rattle.thiele_cli.specs.Loads.{IsLoaded}
+use Rattle.thiele_cli.specs.Merges.{AnswersMerge}
+use Rattle.thiele_cli.specs.Pages.{page_text}
 use Rattle.thiele_cli.specs.Portfolios.{AreSummedUp}
 use Rattle.thiele_cli.specs.Valuations.{IsValuation}
 use Rattle.thiele_cli.specs.Cases.{Case, NoReading, Generated, Loaded, FirstRefused, SecondRefused, Answered}
-use Rattle.thiele_cli.specs.Cases.{AnsweredOfTwo, AnsweredOfClaims, WrongRow, PolicyRefused, SummedUp}
+use Rattle.thiele_cli.specs.Cases.{AnsweredOfTwo, AnsweredOfClaims, AnsweredOfChange, AnsweredOfShards, Told}
+use Rattle.thiele_cli.specs.Cases.{WrongRow, PolicyRefused, SummedUp}
 
 -- the end of a run with this answer, once its text is written
 abbrev pub end_of : Answer → End
@@ -51,9 +56,11 @@ end_of (answer.Report product report) = end.Done
 end_of (answer.Load product report) = end.Done
 end_of (answer.File text) = end.Done
 end_of (answer.Refused why) = refused_end why
+end_of (answer.RefusedText why text) = refused_end why
 end_of (answer.Changes old new changes) = end.Done
 end_of (answer.Audit product eps audited) = end.Done
 end_of (answer.Portfolio totals) = end.Done
+end_of (answer.Told page) = end.Done
 
 -- the report of an answer that is one
 abbrev pub report_of : Answer → Option Report
@@ -62,9 +69,11 @@ report_of (answer.Report product report) = Some report
 report_of (answer.Load product report) = Some report
 report_of (answer.File text) = None
 report_of (answer.Refused why) = None
+report_of (answer.RefusedText why text) = None
 report_of (answer.Changes old new changes) = None
 report_of (answer.Audit product eps audited) = None
 report_of (answer.Portfolio totals) = None
+report_of (answer.Told page) = None
 
 -- what it has beside a report
 abbrev pub extra_of : Answer → Extra
@@ -73,9 +82,11 @@ extra_of (answer.Report product report) = extra.Nothing
 extra_of (answer.Load product report) = extra.Nothing
 extra_of (answer.File text) = extra.Nothing
 extra_of (answer.Refused why) = extra.Nothing
+extra_of (answer.RefusedText why text) = extra.Nothing
 extra_of (answer.Changes old new changes) = extra.Compare changes
 extra_of (answer.Audit product eps audited) = extra.Audit audited
 extra_of (answer.Portfolio totals) = extra.Portfolio totals
+extra_of (answer.Told page) = extra.Nothing
 
 -- the text of an answer, with these columns behind a report or behind totals
 abbrev pub text_of : Answer → List ColumnText → List ℕ
@@ -84,9 +95,11 @@ text_of (answer.Report product report) columns = report_text product report colu
 text_of (answer.Load product report) columns = load_text product report
 text_of (answer.File text) columns = text.items
 text_of (answer.Refused why) columns = line_of why
+text_of (answer.RefusedText why text) columns = line_of why
 text_of (answer.Changes old new changes) columns = changes_text old new changes
 text_of (answer.Audit product eps audited) columns = audit_text product eps audited
 text_of (answer.Portfolio totals) columns = totals_text totals columns
+text_of (answer.Told page) columns = page_text page
 
 -- a refusal has a line: the number that it tells is not too large for it
 abbrev pub HasLine : Refusal → Type 0
@@ -97,8 +110,9 @@ HasLine (refusal.Premium low) = unsigned_abs low ≤ 2 ^ 100
 HasLine (refusal.Derived found) = ⊤
 HasLine (refusal.Join broken) = ⊤
 HasLine (refusal.Compare broken) = ⊤
-HasLine (refusal.Row broken) = ⊤
+HasLine (refusal.Row table broken) = ⊤
 HasLine (refusal.Policy broken) = ⊤
+HasLine (refusal.Change broken) = ⊤
 
 -- the answer has a text
 abbrev pub IsPrintable : Answer → Type 0
@@ -107,9 +121,11 @@ IsPrintable (answer.Report product report) = HasText product report
 IsPrintable (answer.Load product report) = HasText product report
 IsPrintable (answer.File text) = ⊤
 IsPrintable (answer.Refused why) = HasLine why
+IsPrintable (answer.RefusedText why text) = HasLine why
 IsPrintable (answer.Changes old new changes) = HaveText old changes
 IsPrintable (answer.Audit product eps audited) = AreAboutStates product audited
 IsPrintable (answer.Portfolio totals) = totals_texts.HaveText totals
+IsPrintable (answer.Told page) = ⊤
 
 -- the answer is a report about the product, and it is right in this sense
 abbrev pub Reports : Product → (Report → Type 0) → Answer → Type 0
@@ -160,16 +176,26 @@ pub record IsGenerated (seed : ℕ) (given : Answer) : Type 0 where
   pub reads : ReadsAs text.items (generated seed)
   pub valid : IsValid text.items (generated_product seed)
 
+-- a text is refused, and it is kept
+pub record IsRefusedText (why : Refusal) (text : List ℕ) (given : Answer) : Type 0 where
+  pub kept : Vec ℕ Global
+  pub answers : given ≡ answer.RefusedText why kept
+  pub text_is : kept.items ≡ text
+
 -- the answer to each case
 abbrev pub Answers : Case → Answer → Type 0
 Answers NoReading given = given ≡ answer.Refused refusal.Words
 Answers (Generated seed) given = IsGenerated seed given
 Answers (Loaded seed) given = IsLoaded seed given
-Answers (WrongRow broken) given = given ≡ answer.Refused (refusal.Row broken)
-Answers (PolicyRefused broken) given = given ≡ answer.Refused (refusal.Policy broken)
+Answers (WrongRow broken) given = given ≡ answer.Refused (refusal.Row table.Holdings broken)
+Answers (PolicyRefused place fault) given =
+    IsRefusedText (refusal.Policy (record { file = place; cause = fault.cause })) fault.text given
 Answers (SummedUp holdings products) given = AreSummedUp holdings products given
-Answers (FirstRefused cause) given = given ≡ answer.Refused (refusal.First cause)
-Answers (SecondRefused cause) given = given ≡ answer.Refused (refusal.Second cause)
+Answers (FirstRefused fault) given = IsRefusedText (refusal.First fault.cause) fault.text given
+Answers (SecondRefused fault) given = IsRefusedText (refusal.Second fault.cause) fault.text given
 Answers (Answered asked product) given = AnswersQuestion asked product given
 Answers (AnsweredOfTwo asked old new) given = AnswersOfTwo asked old new given
 Answers (AnsweredOfClaims eps product text) given = AnswersAudit eps product text given
+Answers (AnsweredOfChange change product) given = AnswersChange change product given
+Answers (AnsweredOfShards text) given = AnswersMerge text given
+Answers (Told page) given = given ≡ answer.Told page

@@ -1,9 +1,12 @@
 // What a run answers, before it is text.
 ghost use Rattle.std.specs.Prelude.{◌≡◌, IfOk};
 ghost use Rattle.report_columns.specs.Columns.{columns_of};
-ghost use Rattle.thiele_cli.specs.Replies.{end_of, report_of, extra_of, text_of, IsPrintable};
+ghost use Rattle.thiele_cli.specs.declared.refusal.Refusal.TheVariants as refusal;
+ghost use Rattle.thiele_cli.specs.Replies.{end_of, report_of, extra_of, text_of, IsPrintable, IsRefusedText};
 
 use crate::end::{End, Extra};
+use crate::file_break::FileRefusal;
+use crate::page::Page;
 use crate::refusal::Refusal;
 use basis_compare::{Changes, changes_bytes};
 use claim_audit::{Audited, audit_bytes};
@@ -26,15 +29,35 @@ pub enum Answer {
     File(Vec<u8>),
     /// No answer, but a line that says why.
     Refused(Refusal),
+    /// No answer by the text of a file, which is kept, and a line that says why.
+    RefusedText(Refusal, Vec<u8>),
     /// The changes from the basis of one product to that of another.
     Changes(Admitted, Admitted, Changes),
     /// What is found of claims about a product, to a distance in millionths of a minor unit.
     Audit(Admitted, i128, Audited),
     /// The totals of a portfolio by group.
     Portfolio(Totals),
+    /// What the program tells of itself.
+    Told(Page),
 }
 
 impl Answer {
+    /// The file is refused, or the first one where the words name two.
+    pub fn first_refused(refused: FileRefusal) -> Answer
+        ensures refused { IsRefusedText (refusal.First refused.cause) refused.text.items result }
+        ensures printable { IsPrintable result }
+    {
+        Answer::RefusedText(Refusal::First(refused.cause), refused.text)
+    }
+
+    /// The second file is refused.
+    pub fn second_refused(refused: FileRefusal) -> Answer
+        ensures refused { IsRefusedText (refusal.Second refused.cause) refused.text.items result }
+        ensures printable { IsPrintable result }
+    {
+        Answer::RefusedText(Refusal::Second(refused.cause), refused.text)
+    }
+
     /// The end of the run, once the text is written.
     pub fn end(&self) -> End
         ensures { result ≡ end_of self.now }
@@ -45,9 +68,11 @@ impl Answer {
             Answer::Load(..) => End::Done,
             Answer::File(_) => End::Done,
             Answer::Refused(why) => why.end(),
+            Answer::RefusedText(why, _) => why.end(),
             Answer::Changes(..) => End::Done,
             Answer::Audit(..) => End::Done,
             Answer::Portfolio(_) => End::Done,
+            Answer::Told(_) => End::Done,
         }
     }
 
@@ -69,6 +94,7 @@ impl Answer {
             Answer::Load(admitted, report) => load_bytes(alloc, admitted.product(), report),
             Answer::File(text) => text.clone(),
             Answer::Refused(why) => why.line(alloc),
+            Answer::RefusedText(why, _) => why.line(alloc),
             Answer::Changes(old, new, changes) => {
                 changes_bytes(alloc, old.product(), new.product(), changes)
             }
@@ -76,6 +102,7 @@ impl Answer {
                 audit_bytes(alloc, admitted.product(), *eps, audited)
             }
             Answer::Portfolio(totals) => totals_bytes(alloc, totals, columns),
+            Answer::Told(page) => page.text(alloc),
         }
     }
 
@@ -90,9 +117,11 @@ impl Answer {
             Answer::Load(_, report) => (Some(report), Extra::Nothing),
             Answer::File(_) => (None, Extra::Nothing),
             Answer::Refused(_) => (None, Extra::Nothing),
+            Answer::RefusedText(..) => (None, Extra::Nothing),
             Answer::Changes(_, _, changes) => (None, Extra::Compare(changes)),
             Answer::Audit(_, _, audited) => (None, Extra::Audit(audited)),
             Answer::Portfolio(totals) => (None, Extra::Portfolio(totals)),
+            Answer::Told(_) => (None, Extra::Nothing),
         }
     }
 }

@@ -9,12 +9,13 @@ ghost use Rattle.thiele_cli.specs.Replies.{IsPrintable};
 use crate::answer::Answer;
 use crate::fault::Fault;
 use crate::fetching::{Fetched, fetch_file, file_verdict};
-use crate::file_break::FileBreak;
+use crate::file_break::FileRefusal;
 use crate::refusal::Refusal;
 use crate::verdict::Verdict;
 use claim_audit::{AuditError, audit};
 use io_ports::Shelf;
 use rate_bounds::Admitted;
+use refusal_words::CsvTable;
 use std::alloc::{AllocError, Global};
 use std::marker::Brand;
 use std::sync::ledger::{Blank, Ledger};
@@ -39,7 +40,7 @@ fn counted_audit<L: Ledger>(
     let mut steps = Steps::<L>::open(blank);
     match audit(alloc, &admitted, text, eps, &mut steps) {
         Ok(audited) => Ok(Answer::Audit(admitted, eps, audited)),
-        Err(AuditError::Row(broken)) => Ok(Answer::Refused(Refusal::Row(broken))),
+        Err(AuditError::Row(broken)) => Ok(Answer::Refused(Refusal::Row(CsvTable::Claims, broken))),
         Err(AuditError::Memory) => Err(AllocError),
     }
 }
@@ -78,12 +79,12 @@ pub fn claims_answer<H: Shelf>(
 {
     let product = match file_verdict(alloc, name, shelf)? {
         Verdict::Admitted(product) => product,
-        Verdict::Refused(cause) => return Ok(Answer::Refused(Refusal::First(cause))),
+        Verdict::Refused(refused) => return Ok(Answer::first_refused(refused)),
     };
     match fetch_file(alloc, claims, shelf)? {
         Fetched::Bytes(text) => Ok(audit_answer(alloc, eps, product, &text)?),
-        Fetched::TooLong { seen } => Ok(Answer::Refused(Refusal::Second(FileBreak::TooLong {
-            seen,
-        }))),
+        Fetched::TooLong { seen } => {
+            Ok(Answer::second_refused(FileRefusal::too_long(alloc, seen)))
+        }
     }
 }

@@ -9,10 +9,12 @@ ghost use Rattle.thiele_cli.specs.AskedAnswers.{AnswersAsked};
 
 use crate::answer::Answer;
 use crate::auditing::claims_answer;
+use crate::changing::change_answer;
 use crate::fault::Fault;
 use crate::fetching::file_verdict;
 use crate::inquiry::{Inquiry, inquiry_of};
 use crate::loading::loaded_answer;
+use crate::merging::shards_answer;
 use crate::pair_question::{PairQuestion, pair_answer};
 use crate::portfolio::portfolio_answer;
 use crate::question::{Question, product_answer};
@@ -42,7 +44,7 @@ fn named_answer<H: Shelf>(
 {
     match file_verdict(alloc, name, shelf)? {
         Verdict::Admitted(product) => Ok(product_answer(alloc, question, product)?),
-        Verdict::Refused(cause) => Ok(Answer::Refused(Refusal::First(cause))),
+        Verdict::Refused(refused) => Ok(Answer::first_refused(refused)),
     }
 }
 
@@ -66,11 +68,11 @@ fn two_named_answer<H: Shelf>(
 {
     let old = match file_verdict(alloc, first, shelf)? {
         Verdict::Admitted(product) => product,
-        Verdict::Refused(cause) => return Ok(Answer::Refused(Refusal::First(cause))),
+        Verdict::Refused(refused) => return Ok(Answer::first_refused(refused)),
     };
     match file_verdict(alloc, second, shelf)? {
         Verdict::Admitted(new) => Ok(pair_answer(alloc, question, old, new)?),
-        Verdict::Refused(cause) => Ok(Answer::Refused(Refusal::Second(cause))),
+        Verdict::Refused(refused) => Ok(Answer::second_refused(refused)),
     }
 }
 
@@ -107,6 +109,9 @@ fn inquiry_answer<H: Shelf>(
         Inquiry::LoadOf(seed) => Ok(loaded_answer(alloc, seed)?),
         Inquiry::OfClaims(name, claims, eps) => claims_answer(alloc, eps, name, claims, shelf),
         Inquiry::OfPortfolio(csv) => portfolio_answer(alloc, csv, shelf),
+        Inquiry::OfChange(name, change) => change_answer(alloc, change, name, shelf),
+        Inquiry::OfShards(csv) => shards_answer(alloc, csv, shelf),
+        Inquiry::OfPage(page) => Ok(Answer::Told(page)),
     }
 }
 

@@ -6,6 +6,7 @@ use crate::file_break::FileBreak;
 use crate::policy_break::PolicyBreak;
 use basis_compare::{Changes, CompareBreak};
 use claim_audit::Audited;
+use file_changes::ChangeBreak;
 use joint_life::JoinBreak;
 use portfolio_run::Totals;
 use reserve_report::Report;
@@ -44,6 +45,8 @@ pub enum End {
     Row(RowBreak),
     /// This product file of the portfolio is the first that is refused.
     Policy(PolicyBreak),
+    /// The product cannot be changed so: this part is the first that is broken.
+    Change(ChangeBreak),
 }
 
 impl End {
@@ -67,6 +70,7 @@ impl End {
             End::Compare(_) => 16,
             End::Row(_) => 14,
             End::Policy(_) => 15,
+            End::Change(_) => 17,
         }
     }
 }

@@ -4,7 +4,7 @@ ghost use Rattle.thiele_cli.specs.Fetches.{IsFetched};
 ghost use Rattle.thiele_cli.specs.Verdicts.{IsVerdictOnFile};
 
 use crate::fault::Fault;
-use crate::file_break::FileBreak;
+use crate::file_break::FileRefusal;
 use crate::verdict::{Verdict, verdict_on};
 use io_ports::{FetchError, Shelf};
 use named_numbers::MOST_FILE_BYTES;
@@ -44,7 +44,7 @@ pub fn file_verdict<H: Shelf>(alloc: Global, name: &str, shelf: &mut H) -> Resul
     ensures files { H.files shelf.new ≡ H.files shelf.old }
 {
     match fetch_file(alloc, name, shelf)? {
-        Fetched::Bytes(bytes) => Ok(verdict_on(alloc, &bytes)?),
-        Fetched::TooLong { seen } => Ok(Verdict::Refused(FileBreak::TooLong { seen })),
+        Fetched::Bytes(bytes) => Ok(verdict_on(alloc, bytes)?),
+        Fetched::TooLong { seen } => Ok(Verdict::Refused(FileRefusal::too_long(alloc, seen))),
     }
 }

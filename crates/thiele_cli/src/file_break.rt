@@ -1,10 +1,11 @@
 // Why a product file is refused.
 ghost use Rattle.std.specs.Prelude.{◌≡◌, ◌++◌, OnOk};
+ghost use Rattle.thiele_cli.specs.FileFaults.{fault_in, too_long};
 ghost use Rattle.thiele_cli.specs.Refusals.{rule_words, file_words};
 
 use decimal_out::push_whole;
 use rule_breaks::RuleBreak;
-use std::alloc::AllocError;
+use std::alloc::{AllocError, Global};
 
 /// Why a product file is refused.
 #[derive(Clone, Copy, Debug, PartialEq, Eq)]
@@ -15,6 +16,25 @@ pub enum FileBreak {
     NotToml,
     /// It breaks this rule first, at its least place.
     Rule(RuleBreak),
+}
+
+/// Why a product file is refused, and its text, which is empty where it is too long.
+#[derive(Drop)]
+pub struct FileRefusal {
+    pub cause: FileBreak,
+    pub text: Vec<u8>,
+}
+
+impl FileRefusal {
+    /// A file that is too long, of which so many bytes were taken.
+    pub fn too_long(alloc: Global, seen: u64) -> FileRefusal
+        ensures { fault_in result ≡ too_long seen }
+    {
+        FileRefusal {
+            cause: FileBreak::TooLong { seen },
+            text: Vec::new(alloc),
+        }
+    }
 }
 
 /// Appends the words that tell a broken rule.

@@ -4,6 +4,8 @@ ghost use Rattle.command_words.specs.Commands.{request_of};
 ghost use Rattle.thiele_cli.specs.Inquiries.{asked_by, IsWellAsked};
 ghost use Rattle.thiele_cli.specs.Questions.{asked_of, IsRead};
 
+use crate::changing::Change;
+use crate::page::Page;
 use crate::pair_question::PairQuestion;
 use crate::question::Question;
 use command_words::Command;
@@ -23,6 +25,12 @@ pub enum Inquiry<'a> {
     OfClaims(&'a str, &'a str, i128),
     /// The totals of a portfolio.
     OfPortfolio(&'a str),
+    /// The product of a file, changed.
+    OfChange(&'a str, Change<'a>),
+    /// The sums of totals that a file holds.
+    OfShards(&'a str),
+    /// What the program tells of itself.
+    OfPage(Page),
 }
 
 /// What a command asks.
@@ -47,5 +55,13 @@ pub fn inquiry_of(command: Command<'_>) -> Inquiry<'_>
         }
         Command::Audit(name, claims, eps) => Inquiry::OfClaims(name, claims, eps),
         Command::Portfolio(csv) => Inquiry::OfPortfolio(csv),
+        Command::Shift(name, rate) => Inquiry::OfChange(name, Change::Shifted(rate)),
+        Command::Multiply(name, from, to, factor) => {
+            Inquiry::OfChange(name, Change::Multiplied(from, to, factor))
+        }
+        Command::Charge(name, amount) => Inquiry::OfChange(name, Change::Charged(amount)),
+        Command::Merge(csv) => Inquiry::OfShards(csv),
+        Command::Help => Inquiry::OfPage(Page::Help),
+        Command::Version => Inquiry::OfPage(Page::Version),
     }
 }

@@ -22,7 +22,7 @@ fn generated(alloc: Global, seed: u64) -> Result<Admitted, AllocError>
     ensures { IfOk result (λ admitted. admitted ≡ generated_product seed) }
 {
     let text = make(alloc, seed)?;
-    match verdict_on(alloc, &text)? {
+    match verdict_on(alloc, text)? {
         Verdict::Admitted(admitted) => Ok(admitted),
         Verdict::Refused(_) => unreachable!(),
     }

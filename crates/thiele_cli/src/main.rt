@@ -3,15 +3,20 @@
 
 mod answer;
 mod auditing;
+mod changing;
 mod command_answer;
 mod comparison;
 mod end;
+mod explaining;
 mod fault;
 mod fetching;
 mod file_break;
+mod form;
 mod inquiry;
 mod joining;
 mod loading;
+mod merging;
+mod page;
 mod pair_question;
 mod pieces;
 mod policy_break;

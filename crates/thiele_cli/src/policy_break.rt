@@ -2,7 +2,7 @@
 ghost use Rattle.std.specs.Prelude.{◌≡◌, IfOk};
 ghost use Rattle.thiele_cli.specs.Refusals.{policy_line};
 
-use crate::file_break::FileBreak;
+use crate::file_break::{FileBreak, FileRefusal};
 use decimal_out::push_whole;
 use std::alloc::{AllocError, Global};
 
@@ -12,6 +12,13 @@ use std::alloc::{AllocError, Global};
 pub struct PolicyBreak {
     pub file: u32,
     pub cause: FileBreak,
+}
+
+/// The first product file of a portfolio that is refused, by the same place, and its text.
+#[derive(Drop)]
+pub struct PolicyRefusal {
+    pub file: u32,
+    pub refused: FileRefusal,
 }
 
 impl PolicyBreak {

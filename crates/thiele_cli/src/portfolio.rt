@@ -8,18 +8,20 @@ ghost use Rattle.thiele_cli.specs.Cases.{IsAskedOf};
 ghost use Rattle.thiele_cli.specs.PortfolioFiles.{AnswersText, IsLast, IsNext};
 ghost use Rattle.thiele_cli.specs.Portfolios.{NamesFile};
 ghost use Rattle.thiele_cli.specs.Questions.{OfPortfolio};
-ghost use Rattle.thiele_cli.specs.Replies.{IsPrintable};
+ghost use Rattle.thiele_cli.specs.declared.refusal.Refusal.TheVariants as refusal;
+ghost use Rattle.thiele_cli.specs.Replies.{IsPrintable, IsRefusedText};
 
 use crate::answer::Answer;
 use crate::fault::Fault;
 use crate::fetching::{Fetched, fetch_file, file_verdict};
-use crate::file_break::FileBreak;
-use crate::policy_break::PolicyBreak;
+use crate::file_break::FileRefusal;
+use crate::policy_break::{PolicyBreak, PolicyRefusal};
 use crate::refusal::Refusal;
 use crate::verdict::Verdict;
 use io_ports::Shelf;
 use portfolio_run::{Policies, PolicyError, read_policies};
 use rate_bounds::Admitted;
+use refusal_words::CsvTable;
 use std::alloc::{AllocError, Global};
 use std::marker::Brand;
 use std::str;
@@ -56,7 +58,7 @@ fn next_file<H: Shelf>(
     alloc: Global,
     policies: &mut Policies,
     shelf: &mut H,
-) -> Result<Option<FileBreak>, Fault>
+) -> Result<Option<FileRefusal>, Fault>
     requires left { length policies.old.valued < length (files_of policies.old.holdings) }
     requires texts { All IsUtf8 (files_of policies.old.holdings) }
     ensures next { IfOk result (IsNext (H.files shelf.old) policies.old policies.new) }
@@ -75,7 +77,7 @@ fn next_file<H: Shelf>(
             value_file(policies, &product)?;
             Ok(None)
         }
-        Verdict::Refused(cause) => Ok(Some(cause)),
+        Verdict::Refused(refused) => Ok(Some(refused)),
     }
 }
 
@@ -84,7 +86,7 @@ fn value_files<H: Shelf>(
     alloc: Global,
     policies: &mut Policies,
     shelf: &mut H,
-) -> Result<Option<PolicyBreak>, Fault>
+) -> Result<Option<PolicyRefusal>, Fault>
     requires none { policies.old.valued ≡ [] }
     requires few { length (files_of policies.old.holdings) ≤ most_bytes }
     requires texts { All IsUtf8 (files_of policies.old.holdings) }
@@ -96,12 +98,23 @@ fn value_files<H: Shelf>(
     ensures files { H.files shelf.new ≡ H.files shelf.old }
 {
     for file in 0..policies.files().len() {
-        if let Some(cause) = next_file(alloc, policies, shelf)? {
+        if let Some(refused) = next_file(alloc, policies, shelf)? {
             let file = file as u32;
-            return Ok(Some(PolicyBreak { file, cause }));
+            return Ok(Some(PolicyRefusal { file, refused }));
         }
     }
     Ok(None)
+}
+
+// A product file of the portfolio is refused.
+fn policy_refused(refused: PolicyRefusal) -> Answer
+    ensures refused { IsRefusedText (refusal.Policy (record { file = refused.file; cause = refused.refused.cause }))
+        refused.refused.text.items result }
+    ensures printable { IsPrintable result }
+{
+    let PolicyRefusal { file, refused } = refused;
+    let cause = refused.cause;
+    Answer::RefusedText(Refusal::Policy(PolicyBreak { file, cause }), refused.text)
 }
 
 // The answer to the text of a portfolio.
@@ -117,15 +130,19 @@ fn text_answer<H: Shelf>(alloc: Global, text: &[u8], shelf: &mut H) -> Result<An
 {
     let mut policies = match read_policies(alloc, text) {
         Ok(policies) => policies,
-        Err(PolicyError::Row(broken)) => return Ok(Answer::Refused(Refusal::Row(broken))),
+        Err(PolicyError::Row(broken)) => {
+            return Ok(Answer::Refused(Refusal::Row(CsvTable::Holdings, broken)));
+        }
         Err(PolicyError::Memory) => return Err(Fault::Memory),
     };
-    if let Some(broken) = value_files(alloc, &mut policies, shelf)? {
-        return Ok(Answer::Refused(Refusal::Policy(broken)));
+    if let Some(refused) = value_files(alloc, &mut policies, shelf)? {
+        return Ok(policy_refused(refused));
     }
     match policies.totals() {
         Ok(totals) => Ok(Answer::Portfolio(totals)),
-        Err(PolicyError::Row(broken)) => Ok(Answer::Refused(Refusal::Row(broken))),
+        Err(PolicyError::Row(broken)) => {
+            Ok(Answer::Refused(Refusal::Row(CsvTable::Holdings, broken)))
+        }
         Err(PolicyError::Memory) => Err(Fault::Memory),
     }
 }
@@ -144,8 +161,8 @@ pub fn portfolio_answer<H: Shelf>(alloc: Global, name: &str, shelf: &mut H) -> R
 {
     match fetch_file(alloc, name, shelf)? {
         Fetched::Bytes(text) => text_answer(alloc, &text, shelf),
-        Fetched::TooLong { seen } => Ok(Answer::Refused(Refusal::First(FileBreak::TooLong {
-            seen,
-        }))),
+        Fetched::TooLong { seen } => {
+            Ok(Answer::first_refused(FileRefusal::too_long(alloc, seen)))
+        }
     }
 }

@@ -8,8 +8,10 @@ use crate::file_break::{FileBreak, push_rule};
 use crate::policy_break::PolicyBreak;
 use basis_compare::CompareBreak;
 use decimal_out::{push_millionths, push_whole};
+use file_changes::ChangeBreak;
 use fixed_num::scale_floor;
 use joint_life::JoinBreak;
+use refusal_words::CsvTable;
 use rule_breaks::{RowBreak, RuleBreak};
 use std::alloc::{AllocError, Global};
 
@@ -30,10 +32,12 @@ pub enum Refusal {
     Derived(RuleBreak),
     /// The two bases first differ in this part.
     Compare(CompareBreak),
-    /// This row of the table of the command is the first that is wrong, and this its first wrong part.
-    Row(RowBreak),
+    /// This row of such a table is the first that is wrong, and this its first wrong part.
+    Row(CsvTable, RowBreak),
     /// This product file of the portfolio is the first that is refused.
     Policy(PolicyBreak),
+    /// The product cannot be changed so: this part is the first that is broken.
+    Change(ChangeBreak),
 }
 
 /// The line that refuses a file, with these words before the cause.
@@ -104,8 +108,9 @@ impl Refusal {
             Refusal::Join(broken) => End::Join(broken),
             Refusal::Derived(found) => End::Derived(found),
             Refusal::Compare(broken) => End::Compare(broken),
-            Refusal::Row(broken) => End::Row(broken),
+            Refusal::Row(_, broken) => End::Row(broken),
             Refusal::Policy(broken) => End::Policy(broken),
+            Refusal::Change(broken) => End::Change(broken),
         }
     }
 
@@ -122,8 +127,9 @@ impl Refusal {
             Refusal::Join(broken) => part_text(alloc, b"refused join part ", broken.part),
             Refusal::Derived(found) => derived_text(alloc, found),
             Refusal::Compare(broken) => part_text(alloc, b"refused compare part ", broken.part),
-            Refusal::Row(broken) => row_text(alloc, broken),
+            Refusal::Row(_, broken) => row_text(alloc, broken),
             Refusal::Policy(broken) => broken.line(alloc),
+            Refusal::Change(broken) => part_text(alloc, b"refused change part ", broken.part),
         }
     }
 }

@@ -1,10 +1,11 @@
 // The whole program but its real shelf and sink.
-ghost use Rattle.std.specs.Prelude.{◌≡◌, ◌≢◌, ◌⊎◌, ℕ, IsSome};
+ghost use Rattle.std.specs.Prelude.{◌≡◌, ◌≢◌, ◌⊎◌, IsSome};
 ghost use Rattle.io_ports.specs.Counts.{Rose};
-ghost use Rattle.command_words.specs.Readings.{words_of, HaveReading};
+ghost use Rattle.command_words.specs.Forms.{HaveReading};
+ghost use Rattle.command_words.specs.Readings.{words_of};
 ghost use Rattle.report_columns.specs.Columns.{columns_of};
 ghost use Rattle.thiele_cli.specs.Cases.{AskAbout};
-ghost use Rattle.thiele_cli.specs.Questions.{AreOfSeed};
+ghost use Rattle.thiele_cli.specs.Questions.{AskForNoFile};
 ghost use Rattle.thiele_cli.specs.Replies.{end_of, report_of, extra_of};
 ghost use Rattle.thiele_cli.specs.Ends.{ComesBy, IsExtra, IsFault, LeadTo};
 ghost use Rattle.thiele_cli.specs.Ends.{LeadToExtra, LeadToReport, NotesFailure, status_of};
@@ -14,6 +15,7 @@ use crate::answer::Answer;
 use crate::command_answer::command_answer;
 use crate::end::{End, Extra, Finish};
 use crate::fault::Fault;
+use crate::form::no_reading_text;
 use crate::pieces::write_pieces;
 use crate::refusal::Refusal;
 use command_words::read_words;
@@ -51,19 +53,20 @@ pub fn run<H: Shelf, K: Sink>(
 ) -> Finish
     ensures status { result.status ≡ status_of result.end }
 
-    // What was written, with the columns behind a report, and that the report is right, or what else was asked for: the
-    // headline.
-    ensures written { Writes (H.files shelf.old) (words_of words.now) (columns_of kind text columns.items)
-        result.end result.report result.extra (K.written sink.old) (K.written sink.new) }
+    // What was written, in the form that is asked for, with the columns behind a report, and that the report is right,
+    // or what else was asked for: the headline.
+    ensures written { Writes (H.files shelf.old) (words_of words.now) (H.given shelf.new)
+        (columns_of kind text columns.items) result.end result.report result.extra (K.written sink.old)
+        (K.written sink.new) }
 
     // When each end comes, and that it comes wherever its case is known: `Done` and each refusal.
     ensures causes { (own : End) → ¬ IsFault own →
         ComesBy (H.files shelf.old) (words_of words.now) (H.failed shelf.old) (H.failed shelf.new) result.end own }
 
-    // Words without a reading and seeds need no file, told or not; the first take no memory either.
+    // Words without a reading, seeds and pages need no file, told or not; the first take no memory either.
     ensures no_reading { ¬ HaveReading (words_of words.now) →
         (result.end ≡ End.BadWords) ⊎ (result.end ≡ End.WriteFault) }
-    ensures seeds { (seed : ℕ) → AreOfSeed (words_of words.now) seed →
+    ensures no_file { AskForNoFile (words_of words.now) →
         (result.end ≡ End.Done) ⊎ (result.end ≡ End.Memory) ⊎ (result.end ≡ End.WriteFault) }
 
     // A fetch fault comes exactly where the list of failed names grew, and it grew by a file that the words name, or
@@ -87,15 +90,19 @@ pub fn run<H: Shelf, K: Sink>(
 
     ensures files { H.files shelf.new ≡ H.files shelf.old }
 {
-    let Some(command) = read_words(words) else {
-        return deliver(sink, Answer::Refused(Refusal::Words), b"refused words\n");
+    let Some(reading) = read_words(words) else {
+        return deliver(
+            sink,
+            Answer::Refused(Refusal::Words),
+            no_reading_text(words),
+        );
     };
-    let answer = match command_answer(alloc, command, shelf) {
+    let answer = match command_answer(alloc, reading.command, shelf) {
         Ok(answer) => answer,
         Err(Fault::Fetch) => return Finish::of(End::FetchFault, None, Extra::Nothing),
         Err(Fault::Memory) => return Finish::of(End::Memory, None, Extra::Nothing),
     };
-    match answer.text(alloc, &mut columns) {
+    match answer.text_in(alloc, reading.form, words, shelf.given(), &mut columns) {
         Ok(text) => deliver(sink, answer, &text),
         Err(_) => Finish::of(End::Memory, None, Extra::Nothing),
     }

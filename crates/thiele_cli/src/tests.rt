@@ -3,6 +3,7 @@ mod columns;
 mod comparisons;
 mod damages;
 mod ends;
+mod forms;
 mod portfolios;
 mod reports;
 mod seeds;

@@ -1,6 +1,8 @@
-use Rattle.std.proofs.Common.{ap, subst, sym}
+use Rattle.std.proofs.Common.{ap, refl, subst, sym}
 use Rattle.thiele_cli.specs.Inquiries.{asked_by}
+use Rattle.thiele_cli.specs.declared.answer.Answer.TheVariants as answer
 use Rattle.thiele_cli.specs.AskedAnswers.{AnswersAsked}
+use Rattle.thiele_cli.specs.Cases.{Told}
 use Rattle.thiele_cli.proofs.Answered.{seed_answers, load_answers}
 use Rattle.thiele_cli.proofs.command_answer.inquiry_answer.Goals as goal
 
@@ -19,3 +21,9 @@ returns-in_ok-loaded_answer-in-LoadOf-clause-answer g c =
     (sym (ap asked_by c.in-LoadOf.is))
     (load_answers files c.in-LoadOf.seed c.in_ok-loaded_answer-in-LoadOf.field-0
     c.in_ok-loaded_answer-in-LoadOf.ensures.answer)
+
+pub returns-in-OfPage-clause-answer : goal.returns-in-OfPage-clause-answer
+returns-in-OfPage-clause-answer g c =
+    let files = g.H.Shelf.files c.args.shelf.now in
+    subst (λ asked. AnswersAsked files asked (answer.Told c.in-OfPage.page)) (sym (ap asked_by c.in-OfPage.is))
+    (record { case = Told c.in-OfPage.page; holds = refl; says = refl })

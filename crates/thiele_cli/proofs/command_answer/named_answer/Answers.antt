@@ -1,4 +1,5 @@
 use Rattle.std.proofs.Common.{refl}
+use Rattle.thiele_cli.specs.FileFaults.{fault_in}
 use Rattle.thiele_cli.proofs.Answered.{product_of, fault_of, refused_file, answered_file}
 use Rattle.thiele_cli.proofs.command_answer.named_answer.Goals as goal
 
@@ -13,6 +14,6 @@ returns-in_ok-product_answer-in-Admitted-clause-answer g c =
 pub returns-in-Refused-clause-answer : goal.returns-in-Refused-clause-answer
 returns-in-Refused-clause-answer g c =
     let files = g.H.Shelf.files c.args.shelf.now in
-    refused_file files c.args.question c.args.name.now c.in-Refused.cause
-    (fault_of files files c.args.name.now c.in_ok-product.field-0 c.in-Refused.cause refl c.in-Refused.is
-    c.in_ok-product.ensures.verdict)
+    refused_file files c.args.question c.args.name.now (fault_in c.in-Refused.refused) c.first_refused.result
+    (fault_of files files c.args.name.now c.in_ok-product.field-0 c.in-Refused.refused refl c.in-Refused.is
+    c.in_ok-product.ensures.verdict) c.first_refused.ensures.refused

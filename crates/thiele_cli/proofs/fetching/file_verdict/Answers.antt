@@ -8,4 +8,4 @@ returns-in_ok-verdict_on-in-Bytes-clause-verdict g c =
     let files = g.H.Shelf.files c.args.shelf.now in
     verdict_of_file files c.args.name.now c.in-Bytes.bytes.items c.in_ok-verdict_on-in-Bytes.field-0
     (subst (IsFetched files c.args.name.now) c.in-Bytes.is c.in_ok-bytes.ensures.fetched)
-    (rw (← c.deref.ensures.value) c.in_ok-verdict_on-in-Bytes.ensures)
+    c.in_ok-verdict_on-in-Bytes.ensures

@@ -1,6 +1,7 @@
 use Rattle.std.proofs.Common.{◌≡◌, ◌∙◌, [], length, refl, sym, subst}
 use Rattle.std.specs.Prelude.{IsUtf8}
 use Rattle.thiele_cli.specs.Cases.{HasFault, HasProduct}
+use Rattle.thiele_cli.specs.FileFaults.{fault_in}
 use Rattle.thiele_cli.specs.PortfolioFiles.{next_name}
 use Rattle.thiele_cli.proofs.Answered.{fault_of, product_of}
 use Rattle.thiele_cli.proofs.Portfolios.{next_name_is}
@@ -36,6 +37,6 @@ returns-in-Refused-clause-next g c =
     next_name_is c.args.policies.now c.files.result.now c.valued-place.result c.index-files-place.result
     c.files.ensures.names c.valued-place.ensures c.requires.left c.files.ensures.count c.index-files-place.is
     ∙ sym c.deref.ensures.value in
-    subst (λ n. HasFault files n c.in-Refused.cause) (c.in-Ok.ensures.cases.0 ∙ sym name)
-    (fault_of files files c.in-Ok.name.now c.in_ok-product.field-0 c.in-Refused.cause refl c.in-Refused.is
+    subst (λ n. HasFault files n (fault_in c.in-Refused.refused)) (c.in-Ok.ensures.cases.0 ∙ sym name)
+    (fault_of files files c.in-Ok.name.now c.in_ok-product.field-0 c.in-Refused.refused refl c.in-Refused.is
     c.in_ok-product.ensures.verdict)

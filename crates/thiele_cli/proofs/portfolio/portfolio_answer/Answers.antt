@@ -4,7 +4,8 @@ use Rattle.thiele_cli.specs.AskedAnswers.{AnswersAsked}
 use Rattle.thiele_cli.specs.Fetches.{IsFetched}
 use Rattle.thiele_cli.specs.PortfolioFiles.{AnswersText}
 use Rattle.thiele_cli.specs.Questions.{OfPortfolio}
-use Rattle.thiele_cli.proofs.Portfolios.{text_is_asked, too_long}
+use Rattle.thiele_cli.proofs.Portfolios.{long_portfolio, text_is_asked}
+use Rattle.thiele_cli.proofs.AuditedClaims.{long_fault}
 use Rattle.thiele_cli.proofs.portfolio.portfolio_answer.Goals as goal
 
 pub returns-in-Bytes-clause-answer : goal.returns-in-Bytes-clause-answer
@@ -21,5 +22,7 @@ returns-in-Bytes-clause-answer g c =
 pub returns-in-TooLong-clause-answer : goal.returns-in-TooLong-clause-answer
 returns-in-TooLong-clause-answer g c =
     let files = g.H.Shelf.files c.args.shelf.now in
-    too_long files c.args.name.now c.in-TooLong.seen
-    (subst (IsFetched files c.args.name.now) c.in-TooLong.is c.in_ok-text.ensures.fetched)
+    long_portfolio files c.args.name.now c.in-TooLong.seen c.too_long.result c.first_refused.result
+    (long_fault files c.args.name.now c.in-TooLong.seen
+    (subst (IsFetched files c.args.name.now) c.in-TooLong.is c.in_ok-text.ensures.fetched))
+    c.too_long.ensures c.first_refused.ensures.refused

@@ -1,0 +1,60 @@
+use super::{shelf, sink, words};
+use crate::run::run;
+use std::test::Fail;
+
+// The SHA-256 is from outside, of the bytes of the flat file.
+const JSON: &str =
+    "{\"command\":[\"value\",\"flat\"],\"degree\":8,\"files\":[{\"bytes\":172,\"name\":\"flat\",\
+\"sha256\":\"ebe0f0f58bc4e99ab05a2c7db82291d5ec5d18c32fcdb710541ff8e2e6f118ec\"}],\
+\"rows\":[{\"hi\":\"384.000001\",\"lo\":\"383.999999\",\"month\":0,\"state\":\"on\",\
+\"tolerance\":\"0.000003\",\"what\":\"value\"}],\"scale\":10,\"tool\":\"thiele_cli 1.0\"}\n";
+
+const CSV: &str = "month,state,what,lo,hi,tolerance\n0,on,value,383.999999,384.000001,0.000003\n";
+
+#[test]
+fn forms_of_an_answer(rt: HostRuntime) -> Result<(), Fail> {
+    let alloc = rt.alloc();
+    let mut shelf = shelf(alloc, &[])?;
+    for (line, status, text) in [
+        ("json value flat", 0, JSON),
+        ("csv value flat", 0, CSV),
+        ("csv value cut", 5, "refused toml\n"),
+        ("csv check flat", 2, "refused words\n"),
+        ("charge flat 1", 17, "refused change part 4\n"),
+        ("multiply life active gone 2", 17, "refused change part 3\n"),
+        ("version", 0, "thiele_cli 1.0 rattle-kit-13f\n"),
+    ] {
+        let mut sink = sink(alloc, &[])?;
+        let mut texts = Vec::new(alloc);
+        for word in line.split(' ') {
+            texts.push(word)?;
+        }
+        let finish = run(
+            alloc,
+            &words(alloc, &texts)?,
+            &mut shelf,
+            &mut sink,
+            Vec::new(alloc),
+        );
+        assert_eq!(rt; finish.status, status, "{line}");
+        assert!(rt; sink.bytes() == text.as_bytes(), "{line}");
+    }
+    Ok(())
+}
+
+#[test]
+fn a_refused_file_is_explained_by_its_names(rt: HostRuntime) -> Result<(), Fail> {
+    let alloc = rt.alloc();
+    let mut sink = sink(alloc, &[])?;
+    let finish = run(
+        alloc,
+        &words(alloc, &["explain", "check", "empty"])?,
+        &mut shelf(alloc, &[])?,
+        &mut sink,
+        Vec::new(alloc),
+    );
+    assert_eq!(rt; finish.status, 6);
+    assert!(rt; sink.bytes().starts_with(b"refused rule 1 place 0\nrule: "));
+    assert!(rt; sink.bytes().ends_with(b"at: format\n"));
+    Ok(())
+}
