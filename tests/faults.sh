@@ -23,7 +23,13 @@ COMMANDS = [[word, file, *more] for file in (SMALL, LARGE)
             for word, *more in (["check"], ["value"], ["premium"], ["reserves", "60"], ["occupancy", "60"], ["moments", "60"])]
 COMMANDS += [["upgrade", LARGE], ["join", "examples/annuity-20-years.toml", "examples/annuity.toml"],
              ["compare", LARGE, "examples/disability-new-basis.toml", "120"], ["generate", "7"], ["load", "7"],
-             ["audit", LARGE, "examples/claims.csv", "0.01"], ["portfolio", "examples/policies.csv"], ["no", "such", "words"]]
+             ["audit", LARGE, "examples/claims.csv", "0.01"], ["portfolio", "examples/policies.csv"], ["no", "such", "words"],
+             ["shift", LARGE, "0.01"], ["multiply", LARGE, "active", "disabled", "1.1"], ["charge", LARGE, "1"], ["help"],
+             ["merge", "examples/totals.csv"], ["csv", "merge", "examples/totals.csv"], ["version"],
+             *(["csv", *rows] for rows in (["reserves", LARGE, "60"], ["portfolio", "examples/policies.csv"])),
+             *(["json", *rows] for rows in (["moments", LARGE, "60"], ["audit", LARGE, "examples/claims.csv", "0.01"])),
+             *(["explain", *refused] for refused in (["check", "tests/files/negative-intensity.toml"],
+                                                     ["value", "tests/files/two-signs.toml"], ["charge", SMALL, "1"]))]
 
 
 def run(words, **given):

@@ -12,14 +12,14 @@ if [ ! -x "$program" ]; then
   exit 1
 fi
 exec python3 - "$program" "${1:-20000}" "${2:-1}" <<'PYTHON'
-import concurrent.futures, csv, os, pathlib, random, subprocess, sys, tempfile, tomllib
+import concurrent.futures, csv, io, json, os, pathlib, random, subprocess, sys, tempfile, tomllib
 from fractions import Fraction
 
 program, count, seed = sys.argv[1], int(sys.argv[2]), int(sys.argv[3])
 MILLION, BILLION = 10**6, 10**12
 # the texts of refusals, by status
 REFUSALS = {4: "refused length ", 5: "refused toml", 6: "refused rule ", 7: "refused premium low ",
-            14: "refused row "}
+            13: "refused derived rule ", 14: "refused row ", 17: "refused change part "}
 
 
 def table(pairs):
@@ -203,6 +203,8 @@ def check_product(file, product, limits, ask):
     check_upgraded(limits, value, ask)
     check_audit(reserves, ask)
     check_portfolio(file, reserves)
+    check_forms(reserves, occupancy, ask)
+    check_changed(file, row, ask)
     for report in (value, reserves, occupancy):
         check_columns(report, states)
 
@@ -310,24 +312,60 @@ def check_portfolio(file, reserves):
     assert ran.stdout.decode().split("\n")[:5] == wanted + ["end 2"], "other totals"
 
 
+def check_forms(reserves, occupancy, ask):
+    """The rows of reserves as JSON, and those of occupancy as CSV."""
+    head = ["month", "state", "what", "lo", "hi", "tolerance"]
+    tree = json.loads(ask(["reserves", "7"], "json"))
+    rows = [" ".join(str(row[key]) for key in head) for row in tree["rows"]]
+    assert rows == reserves.lines, "other rows as JSON"
+    read = list(csv.reader(io.StringIO(ask(["occupancy", "5"], "csv"))))
+    assert read[0] == head and [" ".join(row) for row in read[1:]] == occupancy.lines, "other rows as CSV"
+
+
+def check_changed(file, value, ask):
+    """With no more interest the same file, with a little more another, and charged with nothing the same value."""
+    assert ask(["shift", "0"]) == ask(["upgrade"]), "another product without a shift"
+    ask(["shift", "-0.000001"])
+    text = ask(["charge", "0"])
+    if text.startswith("refused"):
+        assert text in ("refused change part 4\n", "refused change part 6\n"), f"charged with nothing: {text}"
+        return
+    with tempfile.NamedTemporaryFile(dir=work, suffix=".toml") as charged:
+        charged.write(text.encode())
+        charged.flush()
+        ran = subprocess.run([program, "value", charged.name], capture_output=True, timeout=300)
+    (again,) = Report("value", ran.stdout.decode()).rows
+    assert again[3] <= value[4] and value[3] <= again[4] and again[5] == value[5], "another value, charged with nothing"
+
+
+def check_explained(limits, ask):
+    """A refusal that is explained has its line, and then at most four."""
+    lines = ask(["check"], "explain").split("\n")
+    keys = [line.split(": ")[0] for line in lines[1:-1]]
+    assert lines[0] + "\n" == limits and lines[-1] == "" and keys and keys[0] == "rule", f"explained: {lines}"
+    assert keys == [key for key in ("rule", "at", "found", "wanted") if key in keys], f"explained: {lines}"
+
+
 # the words of each command without its first file; the second is the same
 COMMANDS = [["value"], ["reserves", "7"], ["occupancy", "5"], ["moments", "7"], ["premium"], ["upgrade"],
-            ["compare", "FILE", "7"], ["audit", "FILE", "1"]]
+            ["compare", "FILE", "7"], ["audit", "FILE", "1"], ["shift", "0"], ["charge", "1"]]
 
 
 def fault(file):
     """What is wrong with the answers about a file; nothing where they are right."""
 
-    def ask(words):
+    def ask(words, *form):
         named = [file if word == "FILE" else word for word in words]
-        ran = subprocess.run([program, named[0], file, *named[1:]], capture_output=True, timeout=300)
+        ran = subprocess.run([program, *form, named[0], file, *named[1:]], capture_output=True, timeout=300)
         text = ran.stdout.decode()
         assert not ran.stderr, f"errors told: {ran.stderr[:200]}"
         if ran.returncode:
             own = REFUSALS.get(ran.returncode)
-            assert own and text.startswith(own) and text.count("\n") == 1, f"status {ran.returncode}: {text[:200]}"
+            lines = 5 if form == ("explain",) else 1
+            assert own and text.startswith(own) and text.count("\n") <= lines, f"status {ran.returncode}: {text[:200]}"
             assert ran.returncode != 7 or words[0] == "premium", f"status 7 of {words[0]}"
             assert ran.returncode != 14 or words[0] == "audit", f"status 14 of {words[0]}"
+            assert ran.returncode not in (13, 17) or words[0] in ("shift", "charge"), f"status {ran.returncode} of {words[0]}"
         else:
             assert text.endswith("\n"), "no line end at the end"
         return text
@@ -346,6 +384,7 @@ def fault(file):
         else:
             for words in COMMANDS:
                 assert ask(words) == limits, f"another refusal by {words[0]} than {limits}"
+            check_explained(limits, ask)
         return None, limits.split(" ")[0:3]
     except (AssertionError, StopIteration, IndexError, ValueError, subprocess.TimeoutExpired) as error:
         return f"{type(error).__name__}: {error}", []
