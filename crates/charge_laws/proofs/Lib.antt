@@ -1,0 +1,4 @@
+pub mod ChargedRuns
+pub mod FoundLumps
+pub mod PatternCells
+pub mod SmallRuns

@@ -1,0 +1,5 @@
+use Rattle.charge_laws.proofs.ChargedRuns.{charges_come_off_lumps}
+use Rattle.charge_laws.proofs.laws.charges_come_off_lumps.Goals as goal
+
+pub returns : goal.returns
+returns c = charges_come_off_lumps

@@ -1,0 +1,2 @@
+pub mod ChargeInstances
+pub mod ChargeLaws
