@@ -11,7 +11,7 @@ if [ ! -x "$program" ]; then
   exit 1
 fi
 exec python3 - "$program" <<'PYTHON'
-import csv, hashlib, io, json, pathlib, shutil, subprocess, sys, tempfile, tomllib
+import csv, hashlib, io, json, math, pathlib, shutil, subprocess, sys, tempfile, tomllib
 from fractions import Fraction
 
 program, work = sys.argv[1], pathlib.Path(tempfile.mkdtemp())
@@ -159,6 +159,29 @@ def multiplied(tree, first, last, factor):
         piece["c"] = [c * units for c in coefficients]
 
 
+def later(steps, month):
+    """The steps from a month on: that of the month starts anew there."""
+    held = [step for step in steps if step["from"] <= month][-1]
+    c, t = held["c"], Fraction(month - held["from"], 12)
+    again = [sum(math.comb(j, i) * c[j] * t ** (j - i) for j in range(i, 4)) for i in range(4)]
+    return [{"from": month, "c": again}, *(step for step in steps if step["from"] > month)]
+
+
+def charged_all_the_time(tree, amount):
+    """A product with a continuous premium."""
+    pattern, sojourns = tree["premium"], tree.setdefault("sojourn", [])
+    nothing = [{"from": 0, "c": [0, 0, 0, 0]}]
+    for payer in pattern["payers"]:
+        if payer not in [sojourn["state"] for sojourn in sojourns]:
+            sojourns.append({"state": payer, "steps": nothing})
+    for sojourn in sojourns:
+        if sojourn["state"] in pattern["payers"]:
+            before = [step for step in sojourn["steps"] if step["from"] < pattern["until"]]
+            behind = later(sojourn["steps"], pattern["until"]) if pattern["until"] < tree["months"] else []
+            sojourn["steps"] = [{"from": step["from"], "c": [step["c"][0] - int(amount), *step["c"][1:]]}
+                               for step in before] + behind
+
+
 def charged(tree, amount):
     """A product with a premium at dates."""
     pattern = tree["premium"]
@@ -173,6 +196,13 @@ def tree_of(text):
     """The tree of a product file, its lumps in order."""
     tree = tomllib.loads(text)
     tree["lump"] = sorted(tree.get("lump", []), key=lambda lump: (lump["month"], lump["state"]))
+    return in_four(tree)
+
+
+def in_four(tree):
+    """The tree with four coefficients for each step of a sojourn, in place."""
+    for step in [step for sojourn in tree.get("sojourn", []) for step in sojourn["steps"]]:
+        step["c"] = [*step["c"], 0, 0, 0][:4]
     return tree
 
 
@@ -184,16 +214,39 @@ def change_fault(change, words):
     return (status != 0 or tree_of(text) != wanted) and f"status {status}: {text[:300]}"
 
 
+# a premium in two states up to month 30 of 48: one is paid by a varying rate, which goes on from there, and one by none
+RISING = """format = 2
+name = "rising"
+months = 48
+den = 100
+start = "well"
+states = ["well", "ill", "dead"]
+interest = [{ from = 0, c = [3] }]
+transition = [{ from = "well", to = "ill", rate = [{ from = 0, c = [20, 1] }] }]
+sojourn = [
+  { state = "dead", steps = [{ from = 0, c = [5] }] },
+  { state = "ill", steps = [{ from = 0, c = [1200] }, { from = 6, c = [7, 120, -30, 4] }, { from = 42, c = [9, 1] }] },
+]
+premium = { payers = ["well", "ill"], until = 30, every = 0 }
+"""
+(work / "rising.toml").write_text(RISING, encoding="utf-8")
+(work / "uneven.toml").write_text(RISING.replace("until = 30", "until = 31"), encoding="utf-8")
+rising, uneven = str(work / "rising.toml"), str(work / "uneven.toml")
+
 for change, words in [(shifted, ["shift", DISABILITY, "-0.010"]), (shifted, ["shift", DISABILITY, "0"]),
                       (multiplied, ["multiply", DISABILITY, "active", "disabled", "1.10"]),
-                      (charged, ["charge", "tests/values/yearly-premium.toml", "640"])]:
+                      (charged, ["charge", "tests/values/yearly-premium.toml", "640"]),
+                      (charged_all_the_time, ["charge", "tests/values/death-benefit.toml", "2000"]),
+                      (charged_all_the_time, ["charge", rising, "-35"])]:
     told(" ".join(words), change_fault(change, words))
 REFUSED = [(["shift", "tests/files/cut-after-den.toml", "0.01"], "refused rule 1 place 4\n", 6),
            (["shift", written("finest.toml", "shift", DISABILITY, "0.000000"), "0.0"], "refused change part 1\n", 17),
            (["shift", DISABILITY, "-0.1"], "refused derived rule 15 place 0\n", 13),
            (["multiply", DISABILITY, "active", "retired", "1.10"], "refused change part 3\n", 17),
            (["charge", "examples/flat.toml", "1"], "refused change part 4\n", 17),
-           (["charge", "tests/values/yearly-premium.toml", "2000000000000"], "refused change part 5\n", 17)]
+           (["charge", "tests/values/yearly-premium.toml", "2000000000000"], "refused change part 5\n", 17),
+           (["charge", rising, "2000000000000"], "refused change part 5\n", 17),
+           (["charge", uneven, "1"], "refused change part 6\n", 17)]
 for words, line, status in REFUSED:
     found = run(*words)
     told(" ".join(words), found != (line, status) and f"{found}")
@@ -215,6 +268,9 @@ def holds(name, words, row, digits):
 
 holds("the premium", ["premium", SMALL], ("0", "active", "premium"), "408.815654")
 holds("a value charged", ["value", due], ("0", "active", "value"), "-18.355650")
+# a rate of dying of 2 % and a sum of 100000: what is paid for all the time is worth nothing
+paid = written("paid.toml", "charge", "tests/values/death-benefit.toml", "2000")
+holds("a continuous premium charged", ["value", paid], ("0", "active", "value"), "0.000000")
 holds("more disabled at issue", ["compare", base, higher, "60"], ("0", "active", "total"), "265.949738")
 holds("more disabled after five years", ["compare", base, higher, "60"], ("60", "active", "total"), "-6.632840")
 holds("less interest", ["compare", base, lower, "60"], ("0", "active", "total"), "2073.800760")
