@@ -277,7 +277,8 @@ holds("less interest", ["compare", base, lower, "60"], ("0", "active", "total"),
 
 # ---- the program itself
 told("help", "explain COMMAND" not in run("help")[0] and run("help"))
-told("version", not run("version")[0].startswith("thiele_cli 1.0 rattle-kit-") and run("version"))
+kit = subprocess.run(["rt", "version"], capture_output=True, text=True).stdout.split(" ")[0]
+told("version", run("version") != (f"thiele_cli 1.0 {kit}\n", 0) and run("version"))
 told("words", run("csv", "check", DISABILITY) != ("refused words\n", 2) and "csv check has a reading")
 
 print(f"forms: {passed} passed, {failed} failed")
