@@ -84,8 +84,8 @@ fn text_of(alloc: Global, admitted: &Admitted, report: &Report) -> Result<Vec<u8
     Ok(text)
 }
 
-/// The text of the reserves of a file's product, in all states each twelve months, as `thiele_cli reserves FILE 12`
-/// writes it, but without columns; or why there is none.
+/// The text of a right report of the reserves of a file's product, in all states each twelve months, in the format of
+/// `thiele_cli reserves FILE 12`, but without columns; or why there is none.
 pub fn yearly_reserves(alloc: Global, file: &[u8]) -> Result<Vec<u8>, Refusal>
     ensures { IsAnswerOn file.now result }
 {

@@ -12,7 +12,9 @@ help_text =
     ++ codes "seeds: generate SEED, load SEED\n"
     ++ codes "judgements: compare A B EVERY, audit FILE CSV EPS\n"
     ++ codes "groups: portfolio CSV, merge CSV\n"
-    ++ codes "forms: csv COMMAND .., json COMMAND .., explain COMMAND .., help, version\n"
+    ++ codes "rows of values, judgements and groups: csv COMMAND .., json COMMAND ..\n"
+    ++ codes "refusals: explain COMMAND ..\n"
+    ++ codes "pages: help, version\n"
 
 -- the program and the kit that proved and built it
 abbrev pub version_text : List ℕ

@@ -37,7 +37,7 @@ pub enum End {
     Second(FileBreak),
     /// The two lives cannot be joined: this part is the first that is broken.
     Join(JoinBreak),
-    /// The product that is made of both files breaks this rule first.
+    /// The product that is made of the files breaks this rule first.
     Derived(RuleBreak),
     /// The two bases first differ in this part.
     Compare(CompareBreak),
@@ -84,7 +84,7 @@ pub enum Extra {
     Compare(Changes),
     /// What is found of each claim, by `audit`.
     Audit(Audited),
-    /// The totals of a portfolio by group, by `portfolio`.
+    /// The totals by group, of `portfolio` and `merge`.
     Portfolio(Totals),
 }
 

@@ -12,7 +12,9 @@ values: value FILE, reserves FILE EVERY, occupancy FILE EVERY, moments FILE EVER
 seeds: generate SEED, load SEED
 judgements: compare A B EVERY, audit FILE CSV EPS
 groups: portfolio CSV, merge CSV
-forms: csv COMMAND .., json COMMAND .., explain COMMAND .., help, version
+rows of values, judgements and groups: csv COMMAND .., json COMMAND ..
+refusals: explain COMMAND ..
+pages: help, version
 ";
 
 // The program and the kit that proved and built it.

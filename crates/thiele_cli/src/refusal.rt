@@ -28,7 +28,7 @@ pub enum Refusal {
     Premium { low: i128 },
     /// The two lives cannot be joined: this part is the first that is broken.
     Join(JoinBreak),
-    /// The product that is made of both files breaks this rule first.
+    /// The product that is made of the files breaks this rule first.
     Derived(RuleBreak),
     /// The two bases first differ in this part.
     Compare(CompareBreak),
@@ -50,7 +50,7 @@ fn file_text(alloc: Global, head: &[u8], cause: FileBreak) -> Result<Vec<u8>, Al
     Ok(text)
 }
 
-/// The line that refuses the product that is made of two files.
+/// The line that refuses the product that is made of the files.
 fn derived_text(alloc: Global, found: RuleBreak) -> Result<Vec<u8>, AllocError>
     ensures { IfOk result (λ text. text.items ≡ codes "refused derived " ++ rule_words found ++ codes "\n") }
 {
