@@ -1,4 +1,11 @@
 pub mod ChargedRuns
+pub mod ChargedSojourns
+pub mod ChargedSteps
+pub mod Charges
+pub mod CombinedCells
+pub mod ContinuedSteps
 pub mod FoundLumps
+pub mod FoundMembers
+pub mod FoundSojourns
 pub mod PatternCells
 pub mod SmallRuns
