@@ -4,8 +4,10 @@ pub mod ChargedSteps
 pub mod Charges
 pub mod CombinedCells
 pub mod ContinuedSteps
+pub mod ContinuousRuns
 pub mod FoundLumps
 pub mod FoundMembers
 pub mod FoundSojourns
 pub mod PatternCells
 pub mod SmallRuns
+pub mod TwoMonths
