@@ -1,10 +1,9 @@
 -- The runs of a charged product are those of the product, less the amount for each 1 of the pattern's.
 use Rattle.std.specs.Prelude.{◌≡◌, ℕ, zero, suc, pos, ◌-◌, ◌*◌, ◌<◌, ◌≤◌, ℤ, List, [], ◌∷◌, length, refl}
-use Rattle.std.proofs.Common.{ap, sym, ◌∙◌, arith}
+use Rattle.std.proofs.Common.{sym, ◌∙◌, arith}
 use mathlib.Core.Path.{ap₂}
 use Rattle.frac_laws.specs.Fraction.{Fraction, over, whole, opposite, ◌+ℚ◌, ◌*ℚ◌, ◌-ℚ◌}
 use Rattle.frac_laws.specs.Sums.{sum_to}
-use Rattle.frac_laws.specs.Lists.{number_at, vector_at}
 use Rattle.frac_laws.proofs.FractionTerms.{ring, terms}
 use Rattle.frac_laws.proofs.Sums.{sum_to_zeros}
 use Rattle.frac_laws.proofs.Vectors.{number_at-scale_list}
@@ -16,6 +15,7 @@ use Rattle.model_specs.specs.Systems.{thiele_system, sojourn_rate_at, first_paym
 use Rattle.model_specs.specs.Runs.{first_before_term, lump_vector, reserve_on, reserve, benefits, pattern_value}
 use Rattle.charge_laws.specs.ChargeLaws.{less_charge, sojourn_number}
 use Rattle.charge_laws.proofs.CombinedCells.{cell_combines, month_combines, tables_combine, vectors_combine}
+use Rattle.charge_laws.proofs.ContinuedSteps.{as_difference}
 use Rattle.charge_laws.proofs.PatternCells.{no_payment}
 
 -- a product with other sojourn payments and other lumps
@@ -32,9 +32,6 @@ with_payments sojourns lumps product = record {
   lumps = lumps;
   pattern = product.pattern;
 }
-
-as_less : (x y a : Fraction) → x +ℚ opposite a *ℚ y ≡ x -ℚ a *ℚ y
-as_less x y a = ring (x ∷ y ∷ a ∷ []) (hlevel terms) refl
 
 -- a rate of a cell that is less, and what is paid beside it
 rate_is_less : (h x y a d none : Fraction) → none ≡ whole (pos 0)
@@ -69,7 +66,7 @@ module _ (amount : ℤ) (product : Product) (sojourns : List Sojourn) (lumps : L
       (lump_vector product (pattern_plan product) date) (lump_vector left (payment_plan left) date)
   lumps_combine date = vectors_combine c (length product.states) (λ i. whole (lump_at (payment_plan product) date i))
       (λ i. whole (lump_at (pattern_plan product) date i)) (λ i. whole (lump_at (payment_plan left) date i))
-      (λ i inside. off.lumps date i inside ∙ sym (as_less _ _ (whole amount)))
+      (λ i inside. off.lumps date i inside ∙ sym (as_difference _ _ (whole amount)))
 
   module _ (grid : Grid) where
     abbrev curves_of : Plan → (month cell : ℕ) → CellCurves
@@ -125,7 +122,7 @@ module _ (amount : ℤ) (product : Product) (sojourns : List Sojourn) (lumps : L
       ≡ less_charge (reserve_on grid product (payment_plan product) n date state) amount
       (reserve_on grid product (pattern_plan product) n date state)
   reserve_is_less grid n date state =
-      (runs_combine grid n (product.months - date)).numbers state ∙ as_less _ _ (whole amount)
+      (runs_combine grid n (product.months - date)).numbers state ∙ as_difference _ _ (whole amount)
 
   pub value_is_less : product.start < length product.states → (n : ℕ)
       → benefits left n ≡ less_charge (benefits product n) amount (pattern_value product n)

@@ -1,23 +1,22 @@
 -- The laws of charges, of premiums at dates and of continuous ones.
-use Rattle.std.specs.Prelude.{◌≡◌, ℕ, pos, ◌<◌, ◌≤◌, ℤ, [], ◌∷◌, length, refl, Bool, true, false, cond, ◌==◌}
+use Rattle.std.specs.Prelude.{◌≡◌, ℕ, pos, ◌≤◌, ℤ, [], ◌∷◌, refl, Bool, true, false, cond, ◌==◌}
 use Rattle.std.proofs.Common.{ap, sym, ◌∙◌, subst, arith}
-use Rattle.std.proofs.lemmas.Bool.{eqb-true, false≢true}
+use Rattle.std.proofs.lemmas.Bool.{eqb-true}
 use Rattle.frac_laws.specs.Fraction.{Fraction, whole, ◌*ℚ◌, ◌-ℚ◌}
 use Rattle.frac_laws.proofs.FractionTerms.{ring, terms}
 use Rattle.whole_laws.proofs.Tests.{same_is}
 use Rattle.model_specs.specs.Product.{Product}
-use Rattle.model_specs.specs.Payments.{payment_plan, pattern_plan, continuous_pattern, dated_pattern, lump_at, sojourn_at}
+use Rattle.model_specs.specs.Payments.{payment_plan, pattern_plan, sojourn_at}
 use Rattle.model_specs.specs.Cells.{Grid}
 use Rattle.model_specs.specs.Runs.{reserve_on, benefits, pattern_value}
 use Rattle.model_specs.specs.RecordRules.{IsWellFormed}
-use Rattle.payment_plan.specs.Tables.{pays_in_month}
 use Rattle.file_changes.specs.Asks.{ChargeAsks}
 use Rattle.file_changes.specs.Charges.{charged, charged_lumps, with_lumps, with_sojourns}
 use Rattle.file_changes.specs.ContinuousCharges.{charged_sojourns}
 use Rattle.charge_laws.specs.ChargeLaws.{ChargesComeOffLumps, ChargesComeOffSojourns, ChargesComeOffReserves}
 use Rattle.charge_laws.specs.ChargeLaws.{ChargesComeOffValues, ChargedPremiumsBalance, less_charge}
 use Rattle.charge_laws.proofs.ChargedRuns.{ComesOff, with_payments, reserve_is_less, value_is_less}
-use Rattle.charge_laws.proofs.ChargedSojourns.{continuous_charge, less_nowhere, less_where}
+use Rattle.charge_laws.proofs.ChargedSojourns.{continuous_charge, less_nowhere}
 use Rattle.charge_laws.proofs.ContinuedSteps.{paid_number}
 use Rattle.charge_laws.proofs.FoundLumps.{charge_comes_off}
 use Rattle.charge_laws.proofs.PatternCells.{pattern_pays}
@@ -44,7 +43,8 @@ module _ (amount : ℤ) (product : Product) (formed : IsWellFormed product)
     (asks : (part : ℕ) → ChargeAsks amount product part) where
   -- the amount comes off, continuously or at dates
   by_premium : (b : Bool) → (product.pattern.every == 0) ≡ b → ComesOff amount product
-      (cond b (with_sojourns (charged_sojourns amount product) product) (with_lumps (charged_lumps amount product) product))
+      (cond b (with_sojourns (charged_sojourns amount product) product)
+      (with_lumps (charged_lumps amount product) product))
   by_premium true continuous = record {
     sojourns = λ grid month cell state power within inside.
         continuous_charge grid month cell power amount product formed (omega (arith, inside)) within state
@@ -60,7 +60,8 @@ module _ (amount : ℤ) (product : Product) (formed : IsWellFormed product)
         ∙ sym (ap (λ y. less_charge (paid_number grid month cell power (sojourn_at (payment_plan product) state month))
         amount y) (pattern_pays grid product month cell state power)
         ∙ rw dated refl);
-    lumps = λ date state inside. rw dated (charge_comes_off amount product date state (some product.pattern.every dated) inside);
+    lumps = λ date state inside. rw dated
+        (charge_comes_off amount product date state (some product.pattern.every dated) inside);
   }
     where
       some : (every : ℕ) → (every == 0) ≡ false → 1 ≤ every

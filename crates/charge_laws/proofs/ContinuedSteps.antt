@@ -1,11 +1,11 @@
 -- What a step pays in a cell, once it is charged, and once it goes on from a later month.
-use Rattle.std.specs.Prelude.{◌≡◌, ℕ, zero, suc, pos, ◌+◌, ◌-◌, ◌*◌, ◌<◌, ◌≤◌, ℤ, ◌+ℤ◌, ◌*ℤ◌, ◌-ℤ◌, List, [], ◌∷◌, length}
-use Rattle.std.specs.Prelude.{refl, nat_le}
+use Rattle.std.specs.Prelude.{◌≡◌, ℕ, zero, suc, pos, ◌+◌, ◌-◌, ◌*◌, ◌≤◌, ℤ, List, [], ◌∷◌, length}
+use Rattle.std.specs.Prelude.{refl}
 use Rattle.std.proofs.Common.{ap, sym, ◌∙◌, arith}
 use mathlib.Core.Path.{ap₂}
 use Rattle.std.proofs.Math.Nat.{mul-zero, pow-zero}
 use Rattle.frac_laws.specs.Fraction.{Fraction, over, whole, opposite, ◌+ℚ◌, ◌*ℚ◌, ◌-ℚ◌}
-use Rattle.frac_laws.specs.Lists.{Vector, number_at, add_lists, scale_list}
+use Rattle.frac_laws.specs.Lists.{number_at, add_lists, scale_list}
 use Rattle.frac_laws.specs.Polynomials.{shifted, stretched, all_over}
 use Rattle.frac_laws.proofs.FractionTerms.{ring, terms}
 use Rattle.frac_laws.proofs.ListAlgebra.{add_lists-none}
@@ -14,11 +14,12 @@ use Rattle.frac_laws.proofs.Polynomials.{stretched-add_lists, stretched-scale_li
 use Rattle.frac_laws.proofs.Quotients.{over_add, over_scale, whole_sub}
 use Rattle.frac_laws.proofs.Vectors.{number_at-add_lists, number_at-scale_list}
 use Rattle.model_specs.specs.Product.{Step}
-use Rattle.model_specs.specs.Payments.{constant_step, step_at}
+use Rattle.model_specs.specs.Payments.{step_at}
 use Rattle.model_specs.specs.Cells.{Grid, Direction, Forward, Backward, origin_of, sign_of, cell_polynomial}
 use Rattle.model_specs.specs.Cells.{amount_cell}
 use Rattle.file_changes.specs.ContinuousAsks.{AreWholeLater, GoesOnWhole}
 use Rattle.file_changes.specs.ContinuousCharges.{coefficients_later, continued_step, less_first, less_step}
+use Rattle.charge_laws.proofs.ChargedSteps.{nothing}
 
 -- the coefficient of a power in what a step pays in a cell
 abbrev pub paid_number : Grid → (month cell power : ℕ) → Step → Fraction
@@ -54,7 +55,8 @@ less_as_sum amount (x ∷ c) some =
     ap₂ (λ z p. z ∷ p) (whole_sub x amount ∙ ring (whole x ∷ whole amount ∷ []) (hlevel terms) refl)
     (sym (add_lists-none (all_over 1 c)))
 
-as_difference : (x y a : Fraction) → x +ℚ opposite a *ℚ y ≡ x -ℚ a *ℚ y
+-- with a number's opposite, and as a difference
+pub as_difference : (x y a : Fraction) → x +ℚ opposite a *ℚ y ≡ x -ℚ a *ℚ y
 as_difference x y a = ring (x ∷ y ∷ a ∷ []) (hlevel terms) refl
 
 pub less_step_pays : (grid : Grid) (month cell power : ℕ) (amount : ℤ) (step : Step) → 1 ≤ length step.c
@@ -87,7 +89,8 @@ pub continued_step_pays : (grid : Grid) (month cell power until : ℕ) (step : S
     → paid_number grid month cell power (continued_step until step) ≡ paid_number grid month cell power step
 continued_step_pays grid month cell power until step some started order goes_on =
     ap (λ f. number_at (cell_polynomial grid f (month - until) cell) power) goes_on
-    ∙ ap (λ f. number_at (stretched (over (sign_of grid.direction) (12 * grid.cells)) f) power) (shifted-shifted _ (over (pos (until - step.from)) 12) (all_over 1 step.c)
+    ∙ ap (λ f. number_at (stretched (over (sign_of grid.direction) (12 * grid.cells)) f) power)
+    (shifted-shifted _ (over (pos (until - step.from)) 12) (all_over 1 step.c)
     ∙ ap (λ b. shifted b (all_over 1 step.c))
     (in_years grid.direction grid.cells (until - step.from) (month - until) (month - step.from) cell some
     (omega (arith, started, order))))
@@ -106,9 +109,6 @@ moved_zeros b =
     (ap₂ (λ x p. x ∷ p) (ring (b ∷ []) (hlevel terms) refl)
     (ap₂ (λ x p. x ∷ p) (ring (b ∷ []) (hlevel terms) refl)
     (ap (λ x. x ∷ []) (ring (b ∷ []) (hlevel terms) refl))))
-
-abbrev nothing : Step
-nothing = constant_step 0 (pos 0)
 
 pub one_step_is : (month : ℕ) → step_at (nothing ∷ []) month ≡ nothing
 one_step_is month = grind arith

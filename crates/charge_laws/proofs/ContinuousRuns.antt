@@ -69,7 +69,8 @@ pattern_lumped_1 = whole (pos 0) ∷ whole (pos 0) ∷ []
 abbrev pattern_at_0 : Vector
 pattern_at_0 = over (pos 53) 640 ∷ whole (pos 0) ∷ []
 
-pattern_lumps_2 : with_lumps continuous_product premium 2 (reserves_before continuous_product premium 0) ≡ pattern_lumped_2
+pattern_lumps_2 : with_lumps continuous_product premium 2 (reserves_before continuous_product premium 0)
+    ≡ pattern_lumped_2
 unfolding ◌+ℚ◌
 pattern_lumps_2 = two (sound refl) (sound refl)
 

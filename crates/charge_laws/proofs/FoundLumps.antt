@@ -1,5 +1,5 @@
 -- The lumps of a charged product at a date.
-use Rattle.std.proofs.Common.{◌≡◌, ℕ, ◌+◌, ◌*◌, ◌/◌, ◌%◌, ◌<◌, ◌≤◌, ℤ, pos, List, [], ◌∷◌, length, map}
+use Rattle.std.proofs.Common.{◌≡◌, ℕ, ◌+◌, ◌*◌, ◌/◌, ◌%◌, ◌<◌, ◌≤◌, ℤ, pos, [], ◌∷◌, length, map}
 use Rattle.std.proofs.Common.{cond, arith, refl, ap, sym, ◌∙◌, subst}
 use Rattle.std.specs.Prelude.{Bool, true, false, not, filter, ◌==◌, ◌&&◌, ◌-ℤ◌, Option, Some, None, find, option_map}
 use Rattle.std.specs.Prelude.{unwrap_or, nat_lt}

@@ -1,6 +1,6 @@
 -- The sojourn payment of a state among those that are charged.
 use Rattle.std.proofs.Common.{◌≡◌, ℕ, ℤ, List, [], ◌∷◌, ◌++◌, map, cond, refl, ap, ◌∙◌, inl, inr}
-use Rattle.std.specs.Prelude.{Bool, true, false, not, filter, ◌==◌, ◌&&◌, Option, Some, None, find, option_map}
+use Rattle.std.specs.Prelude.{Bool, true, false, not, filter, ◌==◌, ◌&&◌, Some, None, find, option_map}
 use Rattle.std.specs.Option.{option_or}
 use Rattle.std.proofs.lemmas.Bool.Decides.{eqb_tells}
 use Rattle.std.proofs.lemmas.List.Folds.{find-append}

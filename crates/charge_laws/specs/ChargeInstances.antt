@@ -1,5 +1,5 @@
 -- Two small products that are charged, by whole months and degree 2, beside exact fractions that were computed outside.
-use Rattle.std.specs.Prelude.{◌≡◌, ℕ, ℤ, pos, negsuc, codes, List, [], ◌∷◌}
+use Rattle.std.specs.Prelude.{◌≡◌, ℕ, pos, negsuc, codes, List, [], ◌∷◌}
 use Rattle.frac_laws.specs.Fraction.{whole, over}
 use Rattle.frac_laws.specs.Lists.{Vector}
 use Rattle.model_specs.specs.Product.{Product, Lump, Step, Sojourn, PremiumPattern}

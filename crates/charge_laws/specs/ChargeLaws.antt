@@ -37,8 +37,8 @@ abbrev pub sojourn_number : Grid → Plan → (state month cell power : ℕ) →
 sojourn_number grid plan state month cell power =
     number_at (amount_cell grid (sojourn_at plan state month) month cell) power
 
--- on each grid, in each cell of each month of the term and in each state, each coefficient of the sojourn payment of the
--- charged product is its own, less the amount for each 1 a year of the pattern
+-- on each grid, in each cell of each month of the term and in each state, each coefficient of the sojourn payment of
+-- the charged product is its own, less the amount for each 1 a year of the pattern
 abbrev pub ChargesComeOffSojourns : Type 0
 ChargesComeOffSojourns = OfEachCharge (λ amount product. (grid : Grid) (month cell state power : ℕ)
     → month < product.months → cell < grid.cells

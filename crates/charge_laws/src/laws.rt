@@ -3,8 +3,8 @@
 ghost use Rattle.charge_laws.specs.ChargeLaws.{ChargesComeOffLumps, ChargesComeOffSojourns, ChargesComeOffReserves};
 ghost use Rattle.charge_laws.specs.ChargeLaws.{ChargesComeOffValues, ChargedPremiumsBalance};
 
-/// The lump of the charged product at each date and in each state is the product's, less the amount times the pattern's:
-/// one that is paid continuously has none.
+/// The lump of the charged product at each date and in each state is the product's, less the amount times the
+/// pattern's. A premium that is paid continuously has no lumps.
 pub fn charges_come_off_lumps()
     ensures { ChargesComeOffLumps }
 {}
@@ -14,8 +14,8 @@ pub fn charges_come_off_sojourns()
     ensures { ChargesComeOffSojourns }
 {}
 
-/// And so, exactly and in every degree, with the reserve at each date and in each state, by cells and by whole months, and
-/// with the value at issue. A charge that is worth the benefits leaves a value of 0.
+/// And so, exactly and in every degree, with the reserve at each date and in each state, by cells and by whole months,
+/// and with the value at issue. A charge that is worth the benefits leaves a value of 0.
 pub fn charges_come_off()
     ensures reserves { ChargesComeOffReserves }
     ensures values { ChargesComeOffValues }
