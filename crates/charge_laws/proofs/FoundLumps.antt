@@ -1,9 +1,8 @@
 -- The lumps of a charged product at a date.
-use Rattle.std.proofs.Common.{◌≡◌, ℕ, zero, suc, ◌+◌, ◌*◌, ◌/◌, ◌%◌, ◌<◌, ◌≤◌, ℤ, pos, List, [], ◌∷◌, length, map}
+use Rattle.std.proofs.Common.{◌≡◌, ℕ, ◌+◌, ◌*◌, ◌/◌, ◌%◌, ◌<◌, ◌≤◌, ℤ, pos, [], ◌∷◌, length, map}
 use Rattle.std.proofs.Common.{cond, arith, refl, ap, sym, ◌∙◌, subst}
 use Rattle.std.specs.Prelude.{Bool, true, false, not, filter, ◌==◌, ◌&&◌, ◌-ℤ◌, Option, Some, None, find, option_map}
 use Rattle.std.specs.Prelude.{unwrap_or, nat_lt}
-use Rattle.std.specs.List.{list_any}
 use Rattle.std.specs.Option.{option_or}
 use Rattle.std.proofs.Math.Nat.{div-lt_iff_lt-mul}
 use Rattle.std.proofs.lemmas.Nat.{div-mul-add, mod-mul-add}
@@ -13,7 +12,7 @@ use Rattle.std.proofs.lemmas.List.Folds.{find-append}
 use Rattle.frac_laws.specs.Fraction.{whole, ◌*ℚ◌, ◌-ℚ◌}
 use Rattle.frac_laws.proofs.FractionTerms.{ring, terms}
 use Rattle.frac_laws.proofs.Quotients.{whole_sub}
-use Rattle.whole_laws.specs.Whole.{list_of, places}
+use Rattle.whole_laws.specs.Whole.{places}
 use Rattle.whole_laws.proofs.Tests.{both_pass, other_is_not}
 use Rattle.model_specs.specs.Product.{Product, Lump, PremiumPattern}
 use Rattle.model_specs.specs.Payments.{payment_plan, dated_pattern, pattern_dates, lump_at}
@@ -21,42 +20,8 @@ use Rattle.payment_plan.specs.Tables.{is_payer, payer_at, pays_at_date}
 use Rattle.payment_plan.proofs.PatternDates.{ones_of, dates_tell}
 use Rattle.joint_life.proofs.Searches.{find_made, find_passing}
 use Rattle.file_changes.specs.Charges.{is_due, has_lump, is_missing, zero_lump, completed_lumps, charged_lump}
-use Rattle.file_changes.specs.Charges.{charged}
-
--- ---- finding
-
--- what is found passes
-pub found_passes : {A : Type 0} (test : A → Bool) (xs : List A) (y : A) → find test xs ≡ Some y → test y ≡ true
-found_passes test [] y found = cc
-found_passes test (x ∷ xs) y found = first (found_passes test xs y) (test x) refl found
-  where
-    first : (find test xs ≡ Some y → test y ≡ true) → (b : Bool) → test x ≡ b
-        → cond b (Some x) (find test xs) ≡ Some y → test y ≡ true
-    first later true is same = (let e : x ≡ y = cc in subst (λ z. test z ≡ true) e is)
-    first later false is found = later found
-
--- where nothing is found, no place passes
-pub none_passes : (test : ℕ → Bool) (n : ℕ) (p : ℕ → ℕ) → find test (list_of n p) ≡ None
-    → (k : ℕ) → k < n → test (p k) ≡ false
-none_passes test zero p none k below = absurd (omega arith)
-none_passes test (suc n) p none k below = first (none_passes test n (λ i. p (suc i))) (test (p 0)) refl none k below
-  where
-    first : (find test (list_of n (λ i. p (suc i))) ≡ None → (k : ℕ) → k < n → test (p (suc k)) ≡ false)
-        → (b : Bool) → test (p 0) ≡ b → cond b (Some (p 0)) (find test (list_of n (λ i. p (suc i)))) ≡ None
-        → (k : ℕ) → k < suc n → test (p k) ≡ false
-    first rest true is none k below = cc
-    first rest false is none zero below = is
-    first rest false is none (suc k) below = rest none k (omega (arith, below))
-
--- and no member of a list has the test
-pub nothing_has : {A : Type 0} (test : A → Bool) (xs : List A) → find test xs ≡ None → list_any test xs ≡ false
-nothing_has test [] none = refl
-nothing_has test (x ∷ xs) none = first (nothing_has test xs) (test x) refl none
-  where
-    first : (find test xs ≡ None → list_any test xs ≡ false) → (b : Bool) → test x ≡ b
-        → cond b (Some x) (find test xs) ≡ None → list_any test (x ∷ xs) ≡ false
-    first rest true is none = cc
-    first rest false is none = rw is (rest none)
+use Rattle.file_changes.specs.Charges.{charged_lumps, with_lumps}
+use Rattle.charge_laws.proofs.FoundMembers.{found_passes, none_passes, nothing_has}
 
 -- ---- the pattern
 
@@ -178,7 +143,7 @@ module _ (amount : ℤ) (product : Product) (date i : ℕ) (inside : i < length 
       by_find None found = not_due (is_due rule date i) refl found
 
   -- the lump of the charged product
-  pub charged_lump_is : lump_at (payment_plan (charged amount product)) date i
+  pub charged_lump_is : lump_at (payment_plan (with_lumps (charged_lumps amount product) product)) date i
       ≡ less_due (lump_at (payment_plan product) date i) (is_due rule date i) amount
   charged_lump_is =
       ap amount_of (find_made is_there changed (completed_lumps s product.lumps rule)
@@ -206,7 +171,7 @@ less_as_fraction x amount false = ring (whole x ∷ whole amount ∷ []) (hlevel
 -- the lump of the charged product, as a fraction
 pub charge_comes_off : (amount : ℤ) (product : Product) (date i : ℕ) → 1 ≤ product.pattern.every
     → i < length product.states
-    → whole (lump_at (payment_plan (charged amount product)) date i)
+    → whole (lump_at (payment_plan (with_lumps (charged_lumps amount product) product)) date i)
     ≡ whole (lump_at (payment_plan product) date i)
     -ℚ whole amount *ℚ whole (lump_at (dated_pattern product.pattern) date i)
 charge_comes_off amount product date i some inside =

@@ -1,4 +1,13 @@
 pub mod ChargedRuns
+pub mod ChargedSojourns
+pub mod ChargedSteps
+pub mod Charges
+pub mod CombinedCells
+pub mod ContinuedSteps
+pub mod ContinuousRuns
 pub mod FoundLumps
+pub mod FoundMembers
+pub mod FoundSojourns
 pub mod PatternCells
 pub mod SmallRuns
+pub mod TwoMonths

@@ -1,73 +1,70 @@
--- A pattern of dates pays nothing between them: over each cell its system has no payments.
-use Rattle.std.specs.Prelude.{◌≡◌, ℕ, zero, suc, pos, ◌-◌, ◌*◌, Some, None, [], ◌∷◌, length, refl}
-use Rattle.std.specs.Prelude.{option_map, unwrap_or}
-use Rattle.std.proofs.Common.{ap, ◌∙◌, inl, inr}
-use Rattle.std.proofs.lemmas.Bool.{cases_lt}
-use Rattle.frac_laws.specs.Fraction.{Fraction, whole, over, ◌+ℚ◌, ◌*ℚ◌}
-use Rattle.frac_laws.specs.Sums.{sum_to}
-use Rattle.frac_laws.specs.Lists.{number_at, vector_at}
+-- What the premium pattern pays in a cell: a constant in a payer's months where it is continuous, and no sums.
+use Rattle.std.specs.Prelude.{◌≡◌, ℕ, zero, suc, pos, ◌-◌, ◌==◌, Option, Some, None, List}
+use Rattle.std.specs.Prelude.{[], ◌∷◌, refl, true, false, cond}
+use Rattle.std.specs.Prelude.{option_map, unwrap_or, slice_index_or}
+use Rattle.std.proofs.Common.{ap, ◌∙◌}
+use Rattle.frac_laws.specs.Fraction.{whole, ◌*ℚ◌}
+use Rattle.frac_laws.specs.Lists.{number_at}
+use Rattle.frac_laws.specs.Polynomials.{all_over}
 use Rattle.frac_laws.proofs.FractionTerms.{ring, terms}
 use Rattle.frac_laws.proofs.Sums.{sum_to_zeros}
-use Rattle.frac_laws.proofs.Vectors.{number_at-scale_list}
-use Rattle.whole_laws.specs.Whole.{list_of}
-use Rattle.whole_laws.proofs.ListsByPlace.{at-list_of, past-list_of}
-use Rattle.model_specs.specs.Product.{Product, PremiumPattern}
-use Rattle.model_specs.specs.Payments.{dated_pattern}
-use Rattle.model_specs.specs.Cells.{CellCurves, Grid, cell_curves, amount_cell, transition_between}
-use Rattle.model_specs.specs.Payments.{constant_step}
-use Rattle.model_specs.specs.Systems.{vector_of, thiele_system, sojourn_rate_at, sum_paid_at, first_payment_at}
-use Rattle.model_specs.specs.Systems.{intensity_at}
+use Rattle.model_specs.specs.Product.{Product, Step}
+use Rattle.model_specs.specs.Payments.{constant_step, continuous_pattern, dated_pattern, pattern_plan}
+use Rattle.model_specs.specs.Payments.{sojourn_at, step_at}
+use Rattle.model_specs.specs.Cells.{CellCurves, Grid, cell_curves, cell_polynomial, amount_cell, transition_between}
+use Rattle.model_specs.specs.Systems.{first_payment_at, intensity_at, sum_paid_at}
 use Rattle.model_laws.proofs.FlatRuns.{constant-number}
+use Rattle.payment_plan.specs.Tables.{pays_in_month}
+use Rattle.payment_plan.proofs.Patterns.{pattern_rate, unit_amount}
+use Rattle.charge_laws.proofs.ContinuedSteps.{paid_number}
 
--- numbers that are 0 at each place, and past the last one
-pub zeros_at : (n : ℕ) (f : ℕ → Fraction) → ((i : ℕ) → f i ≡ whole (pos 0)) → (i : ℕ)
-    → number_at (list_of n f) i ≡ whole (pos 0)
-zeros_at n f none i = elim (cases_lt i n) [
-  | inl low ↦ at-list_of n f i (whole (pos 0)) low ∙ none i
-  | inr high ↦ past-list_of n f i (whole (pos 0)) high
-]
-
--- and so in a table of vectors
-zero_table : (states powers : ℕ) (f : ℕ → ℕ → Fraction) → ((k i : ℕ) → f k i ≡ whole (pos 0)) → (k i : ℕ)
-    → number_at (vector_at (list_of powers (λ m. vector_of states (f m))) k) i ≡ whole (pos 0)
-zero_table states powers f none k i = elim (cases_lt k powers) [
-  | inl low ↦ rw (at-list_of powers (λ m. vector_of states (f m)) k [] low) (zeros_at states (f k) (none k) i)
-  | inr high ↦ rw (past-list_of powers (λ m. vector_of states (f m)) k [] high) refl
-]
-
--- a step that pays nothing, in a cell
-nothing_paid : (grid : Grid) (month cell m : ℕ)
-    → number_at (amount_cell grid (constant_step 0 (pos 0)) month cell) m ≡ whole (pos 0)
-nothing_paid grid month cell m = constant-number _ _ (whole (pos 0)) m ∙ only m
-  where
-    only : (m : ℕ) → number_at (whole (pos 0) ∷ []) m ≡ whole (pos 0)
-    only zero = refl
-    only (suc m) = refl
-
-module _ (grid : Grid) (product : Product) (pattern : PremiumPattern) (month cell : ℕ) where
+module _ (grid : Grid) (product : Product) (month cell : ℕ) where
   abbrev curves : CellCurves
-  curves = cell_curves grid product (dated_pattern pattern) month cell
+  curves = cell_curves grid product (pattern_plan product) month cell
 
-  no_rate : (m i : ℕ) → sojourn_rate_at curves i m ≡ whole (pos 0)
-  no_rate m i =
-      number_at-scale_list _ (amount_cell grid (constant_step 0 (pos 0)) month cell) m
-      ∙ ap (λ z. over (pos 1) (12 * grid.cells) *ℚ z) (nothing_paid grid month cell m)
-      ∙ ring (over (pos 1) (12 * grid.cells) ∷ []) (hlevel terms) refl
+  -- 1 a year in the months in which the pattern pays continuously
+  pub pattern_pays : (i power : ℕ) → paid_number grid month cell power (sojourn_at (pattern_plan product) i month)
+      ≡ number_at (whole (unit_amount (pays_in_month product.pattern i month)) ∷ []) power
+  pattern_pays i power =
+      ap (λ c. number_at (cell_polynomial grid (all_over 1 c)
+      (month - (sojourn_at (pattern_plan product) i month).from) cell) power)
+      (pattern_rate (record {
+        states = 0;
+        months = 0;
+        sums = [];
+        sojourns = [];
+        lumps = [];
+        pattern = product.pattern;
+      }) i month)
+      ∙ constant-number _ _ (whole (unit_amount (pays_in_month product.pattern i month))) power
 
-  no_sum : (m i j : ℕ) → sum_paid_at curves i j m ≡ whole (pos 0)
-  no_sum m i j = elim (transition_between product i j) as (λ o. number_at (unwrap_or (option_map
-      (λ e. amount_cell grid (constant_step 0 (pos 0)) month cell) o) []) m ≡ whole (pos 0)) [
-        | None ↦ refl
-        | Some e ↦ nothing_paid grid month cell m
-      ]
+  -- a sum of nothing
+  nothing_paid : (power : ℕ) → paid_number grid month cell power (constant_step 0 (pos 0)) ≡ whole (pos 0)
+  nothing_paid power = constant-number _ _ (whole (pos 0)) power ∙ only power
+    where
+      only : (power : ℕ) → number_at (whole (pos 0) ∷ []) power ≡ whole (pos 0)
+      only zero = refl
+      only (suc power) = refl
 
-  no_payment : (m i j : ℕ) → first_payment_at curves i j m ≡ whole (pos 0)
-  no_payment m i j = sum_to_zeros (suc m) (λ k below.
-      ap (λ z. intensity_at curves i j k *ℚ z) (no_sum (m - k) i j)
+  -- neither a continuous pattern nor one of dates has sums
+  no_sums : (pattern_plan product).sums ≡ []
+  no_sums = elim (product.pattern.every == 0) as (λ b.
+      (cond b (continuous_pattern product.pattern) (dated_pattern product.pattern)).sums ≡ [])
+      [ true ↦ refl | false ↦ refl ]
+
+  no_sum : (power i j : ℕ) → sum_paid_at curves i j power ≡ whole (pos 0)
+  no_sum power i j =
+      ap (λ (sums : List (List Step)). number_at (unwrap_or (option_map
+      (λ e. amount_cell grid (step_at (slice_index_or sums e []) month) month cell) (transition_between product i j))
+      []) power) no_sums
+      ∙ by_transition (transition_between product i j)
+    where
+      by_transition : (o : Option ℕ) → number_at (unwrap_or (option_map
+          (λ e. amount_cell grid (constant_step 0 (pos 0)) month cell) o) []) power ≡ whole (pos 0)
+      by_transition None = refl
+      by_transition (Some e) = nothing_paid power
+
+  pub no_payment : (power i j : ℕ) → first_payment_at curves i j power ≡ whole (pos 0)
+  no_payment power i j = sum_to_zeros (suc power) (λ k below.
+      ap (λ z. intensity_at curves i j k *ℚ z) (no_sum (power - k) i j)
       ∙ ring (intensity_at curves i j k ∷ []) (hlevel terms) refl)
-
-  pub pattern_is_free : (k i : ℕ) → number_at (vector_at (thiele_system curves).free k) i ≡ whole (pos 0)
-  pattern_is_free = zero_table (length product.states) 9
-      (λ m i. sojourn_rate_at curves i m +ℚ sum_to (length product.states) (λ j. first_payment_at curves i j m))
-      (λ m i. rw (no_rate m i, sum_to_zeros (length product.states) (λ j below. no_payment m i j))
-      (ring [] (hlevel terms) refl))

@@ -1,30 +1,13 @@
--- The small product's runs, computed month by month: each month begins with numbers in lowest terms.
-use Rattle.std.specs.Prelude.{◌≡◌, ℕ, pos, [], ◌∷◌, refl}
-use Rattle.std.proofs.Common.{ap, ◌∙◌}
-use mathlib.Core.Path.{ap₂}
+-- The runs of the small product of premiums at dates, computed month by month: each month begins with numbers in lowest
+-- terms.
+use Rattle.std.specs.Prelude.{◌≡◌, pos, [], ◌∷◌, refl}
 use mathlib.Core.Quot.{sound}
-use Rattle.frac_laws.specs.Fraction.{Fraction, whole, over, opposite, ◌+ℚ◌, ◌*ℚ◌}
-use Rattle.frac_laws.specs.Lists.{Vector, add_lists}
-use Rattle.cell_laws.specs.Systems.{taylor_value}
-use Rattle.model_specs.specs.Product.{Product}
+use Rattle.frac_laws.specs.Fraction.{whole, over, opposite, ◌+ℚ◌, ◌*ℚ◌}
+use Rattle.frac_laws.specs.Lists.{Vector}
 use Rattle.model_specs.specs.Payments.{Plan, payment_plan, pattern_plan}
-use Rattle.model_specs.specs.Cells.{Backward, whole_months, cell_curves}
-use Rattle.model_specs.specs.Systems.{thiele_system}
-use Rattle.model_specs.specs.Runs.{lump_vector}
 use Rattle.charge_laws.specs.ChargeInstances.{small_product, charged_product, reserves_before, ChargedLumpsAre}
 use Rattle.charge_laws.specs.ChargeInstances.{FileReservesAre, PatternReservesAre, ChargedReservesAre}
-
--- two lists of two numbers are one where the numbers are
-two : {a b x y : Fraction} → a ≡ x → b ≡ y → ◌≡◌ {A = Vector} (a ∷ b ∷ []) (x ∷ y ∷ [])
-two p q = ap₂ (λ x y. x ∷ y ∷ []) p q
-
--- the vector with a date's lumps, and the month before
-abbrev with_lumps : Product → Plan → (date : ℕ) → Vector → Vector
-with_lumps product plan date v = add_lists v (lump_vector product plan date)
-
-abbrev month_before : Product → Plan → (month : ℕ) → Vector → Vector
-month_before product plan month v =
-    taylor_value (thiele_system (cell_curves (whole_months Backward) product plan month 0)) v 2
+use Rattle.charge_laws.proofs.TwoMonths.{two, two_months, with_lumps, month_before}
 
 -- the payments of both products, and the pattern
 abbrev own : Plan
@@ -69,12 +52,8 @@ unfolding ◌+ℚ◌ ◌*ℚ◌ opposite
 file_month_0 = two (sound refl) (sound refl)
 
 pub file_reserves_are : FileReservesAre
-file_reserves_are =
-    ap (λ v. month_before small_product own 0
-    (with_lumps small_product own 1 (month_before small_product own 1 v)))
-    file_lumps_2
-    ∙ ap (λ v. month_before small_product own 0 (with_lumps small_product own 1 v)) file_month_1
-    ∙ ap (month_before small_product own 0) file_lumps_1 ∙ file_month_0
+file_reserves_are = two_months small_product own _ _ _ _ file_lumps_2 file_month_1 file_lumps_1
+    file_month_0
 
 -- the reserves of its pattern with the lumps of date 2, at date 1, with its lumps, and at issue
 abbrev pattern_lumped_2 : Vector
@@ -106,12 +85,8 @@ unfolding ◌+ℚ◌ ◌*ℚ◌ opposite
 pattern_month_0 = two (sound refl) (sound refl)
 
 pub pattern_reserves_are : PatternReservesAre
-pattern_reserves_are =
-    ap (λ v. month_before small_product premium 0
-    (with_lumps small_product premium 1 (month_before small_product premium 1 v)))
-    pattern_lumps_2
-    ∙ ap (λ v. month_before small_product premium 0 (with_lumps small_product premium 1 v)) pattern_month_1
-    ∙ ap (month_before small_product premium 0) pattern_lumps_1 ∙ pattern_month_0
+pattern_reserves_are = two_months small_product premium _ _ _ _ pattern_lumps_2 pattern_month_1 pattern_lumps_1
+    pattern_month_0
 
 -- the reserves of the charged product with the lumps of date 2, at date 1, with its lumps, and at issue
 abbrev charged_lumped_2 : Vector
@@ -143,9 +118,5 @@ unfolding ◌+ℚ◌ ◌*ℚ◌ opposite
 charged_month_0 = two (sound refl) (sound refl)
 
 pub charged_reserves_are : ChargedReservesAre
-charged_reserves_are =
-    ap (λ v. month_before charged_product left 0
-    (with_lumps charged_product left 1 (month_before charged_product left 1 v)))
-    charged_lumps_2
-    ∙ ap (λ v. month_before charged_product left 0 (with_lumps charged_product left 1 v)) charged_month_1
-    ∙ ap (month_before charged_product left 0) charged_lumps_1 ∙ charged_month_0
+charged_reserves_are = two_months charged_product left _ _ _ _ charged_lumps_2 charged_month_1 charged_lumps_1
+    charged_month_0

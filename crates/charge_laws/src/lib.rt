@@ -4,5 +4,5 @@
 mod instances;
 mod laws;
 
-pub use instances::small_product_is_charged;
-pub use laws::{charges_come_off, charges_come_off_lumps};
+pub use instances::{continuous_product_is_charged, small_product_is_charged};
+pub use laws::{charges_come_off, charges_come_off_lumps, charges_come_off_sojourns};

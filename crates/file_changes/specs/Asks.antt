@@ -1,19 +1,17 @@
 -- What a change asks of a product and of itself, by numbered parts. This product's own.
-use Rattle.std.specs.Prelude.{ℕ, zero, suc, ◌≤◌, ℤ, All, IsTrue, FitsSigned, unsigned_abs, List, length}
+use Rattle.std.specs.Prelude.{◌≡◌, ℕ, zero, suc, ◌≤◌, ℤ, All, IsTrue, unsigned_abs, List, length}
+use Rattle.std.specs.Prelude.{◌==◌, if◌then◌else◌}
 use Rattle.std.specs.List.{list_any}
-use Rattle.std.specs.Int.{w64}
 use Rattle.named_numbers.specs.Numbers.{most_denominator, most_lump}
 use Rattle.model_specs.specs.Curve.{Piece}
 use Rattle.model_specs.specs.Product.{Product, Lump}
 use Rattle.model_specs.specs.RecordRules.{IsBoundedCurve}
 use Rattle.file_changes.specs.BasisChanges.{finer, leads, shifted, multiplied}
 use Rattle.file_changes.specs.Charges.{charged_lumps}
+use Rattle.file_changes.specs.ContinuousAsks.{AreWords, AreSmallSojourns, PayersGoOnWhole}
+use Rattle.file_changes.specs.ContinuousCharges.{charged_sojourns}
 
--- numbers of 64 bits
-abbrev pub AreWords : List ℤ → Type 0
-AreWords numbers = All (FitsSigned w64) numbers
-
--- so are the coefficients of all pieces of a curve
+-- the coefficients of all pieces of a curve are numbers of 64 bits
 abbrev pub HaveWords : List Piece → Type 0
 HaveWords pieces = All (λ piece. AreWords piece.c) pieces
 
@@ -53,10 +51,17 @@ MultiplyAsks from to units places product = BasisAsks (finer places product)
 abbrev pub AreSmallLumps : List Lump → Type 0
 AreSmallLumps lumps = All (λ l. unsigned_abs l.amount ≤ most_lump) lumps
 
--- what the parts of a charge ask, by their numbers: 4, a premium table; 5, lumps of at most 10^12; 6, a premium that
--- is due at dates
+-- the payments that are charged are small: lumps of at most 10^12, or sojourn payments that obey rule 11
+abbrev pub AreSmallPayments : (amount : ℤ) → Product → Type 0
+AreSmallPayments amount product = if product.pattern.every == 0
+    then AreSmallSojourns product.months (charged_sojourns amount product)
+    else AreSmallLumps (charged_lumps amount product)
+
+-- what the parts of a charge ask, by their numbers: 4, a premium table; 5, small payments; 6, of a continuous premium,
+-- payments that go on in whole numbers at its end
 abbrev pub ChargeAsks : (amount : ℤ) → Product → (part : ℕ) → Type 0
 ChargeAsks amount product (suc (suc (suc (suc zero)))) = 1 ≤ length product.pattern.payers
-ChargeAsks amount product (suc (suc (suc (suc (suc zero))))) = AreSmallLumps (charged_lumps amount product)
-ChargeAsks amount product (suc (suc (suc (suc (suc (suc zero)))))) = 1 ≤ product.pattern.every
+ChargeAsks amount product (suc (suc (suc (suc (suc zero))))) = AreSmallPayments amount product
+ChargeAsks amount product (suc (suc (suc (suc (suc (suc zero)))))) =
+    product.pattern.every ≡ 0 → PayersGoOnWhole product
 ChargeAsks amount product part = Unit

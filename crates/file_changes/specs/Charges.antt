@@ -3,8 +3,9 @@ use Rattle.std.specs.Prelude.{ℕ, ◌*◌, ◌/◌, ◌%◌, ℤ, pos, ◌-ℤ�
 use Rattle.std.specs.Prelude.{List, ◌++◌, length, map, filter}
 use Rattle.std.specs.List.{list_any}
 use Rattle.whole_laws.specs.Whole.{places}
-use Rattle.model_specs.specs.Product.{Product, Lump, PremiumPattern}
+use Rattle.model_specs.specs.Product.{Product, Lump, Sojourn, PremiumPattern}
 use Rattle.payment_plan.specs.Tables.{is_payer, pays_at_date}
+use Rattle.file_changes.specs.ContinuousCharges.{charged_sojourns}
 
 -- the pattern pays at a date in a state
 abbrev pub is_due : PremiumPattern → (date state : ℕ) → Bool
@@ -57,6 +58,24 @@ with_lumps lumps product = record {
   pattern = product.pattern;
 }
 
--- a product whose premium is due at dates, with an amount for each 1 of its pattern taken off its payments
+-- a product with other sojourn payments
+abbrev pub with_sojourns : List Sojourn → Product → Product
+with_sojourns sojourns product = record {
+  name = product.name;
+  states = product.states;
+  start = product.start;
+  months = product.months;
+  den = product.den;
+  interest = product.interest;
+  transitions = product.transitions;
+  sojourns = sojourns;
+  lumps = product.lumps;
+  pattern = product.pattern;
+}
+
+-- a product with an amount for each 1 of its premium pattern taken off its payments: off its sojourn payments where the
+-- premium is continuous, and else off its lumps
 abbrev pub charged : (amount : ℤ) → Product → Product
-charged amount product = with_lumps (charged_lumps amount product) product
+charged amount product = if product.pattern.every == 0
+    then with_sojourns (charged_sojourns amount product) product
+    else with_lumps (charged_lumps amount product) product

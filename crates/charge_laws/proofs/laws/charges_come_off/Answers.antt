@@ -1,5 +1,5 @@
-use Rattle.charge_laws.proofs.ChargedRuns.{charges_come_off_reserves, charges_come_off_values}
-use Rattle.charge_laws.proofs.ChargedRuns.{charged_premiums_balance}
+use Rattle.charge_laws.proofs.Charges.{charges_come_off_reserves, charges_come_off_values}
+use Rattle.charge_laws.proofs.Charges.{charged_premiums_balance}
 use Rattle.charge_laws.proofs.laws.charges_come_off.Goals as goal
 
 pub returns-clause-reserves : goal.returns-clause-reserves

@@ -1,4 +1,4 @@
-use Rattle.charge_laws.proofs.ChargedRuns.{charges_come_off_lumps}
+use Rattle.charge_laws.proofs.Charges.{charges_come_off_lumps}
 use Rattle.charge_laws.proofs.laws.charges_come_off_lumps.Goals as goal
 
 pub returns : goal.returns
