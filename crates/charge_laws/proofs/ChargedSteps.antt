@@ -31,9 +31,6 @@ started month s = nat_le s.from month
 abbrev DoRise : List ℕ → Type 0
 DoRise starts = (k : ℕ) → suc k < length starts → get_or starts k 0 < get_or starts (suc k) 0
 
-rest_rises : (start : ℕ) (starts : List ℕ) → DoRise (start ∷ starts) → DoRise starts
-rest_rises start starts rise k below = rise (suc k) (omega (arith, below))
-
 -- where the first step starts later, the others do too
 none_started : (s : Step) (steps : List Step) (month : ℕ) → month < s.from → DoRise (step_starts (s ∷ steps))
     → filter (started month) steps ≡ []
@@ -41,7 +38,7 @@ none_started s [] month after rise = refl
 none_started s (t ∷ steps) month after rise =
     let next : s.from < t.from = rise 0 (omega arith) in
     rw (lt-leb t.from month (omega (arith, next, after)))
-    (none_started t steps month (omega (arith, next, after)) (rest_rises s.from (step_starts (t ∷ steps)) rise))
+    (none_started t steps month (omega (arith, next, after)) (λ k below. rise (suc k) (omega (arith, below))))
 
 -- the last one that has started by a month is the last that had by an earlier one, or one that starts in between
 abbrev ComesInTwoParts : (steps : List Step) → (early month : ℕ) → (none : Step) → Type 0
@@ -54,7 +51,7 @@ pub last_in_two_parts : (steps : List Step) (none : Step) (early month : ℕ) �
 last_in_two_parts [] none early month order rise = refl
 last_in_two_parts (s ∷ steps) none early month order rise =
     by_start (nat_le s.from early) refl
-    (λ other. last_in_two_parts steps other early month order (rest_rises s.from (step_starts steps) rise))
+    (λ other. last_in_two_parts steps other early month order (λ k below. rise (suc k) (omega (arith, below))))
   where
     -- a step that starts in between
     between : (b : Bool) → nat_le s.from month ≡ b → filter (started early) steps ≡ []

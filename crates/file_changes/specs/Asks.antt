@@ -1,6 +1,5 @@
 -- What a change asks of a product and of itself, by numbered parts. This product's own.
 use Rattle.std.specs.Prelude.{◌≡◌, ℕ, zero, suc, ◌≤◌, ℤ, All, IsTrue, unsigned_abs, List, length}
-use Rattle.std.specs.Prelude.{◌==◌, if◌then◌else◌}
 use Rattle.std.specs.List.{list_any}
 use Rattle.named_numbers.specs.Numbers.{most_denominator, most_lump}
 use Rattle.model_specs.specs.Curve.{Piece}
@@ -51,11 +50,10 @@ MultiplyAsks from to units places product = BasisAsks (finer places product)
 abbrev pub AreSmallLumps : List Lump → Type 0
 AreSmallLumps lumps = All (λ l. unsigned_abs l.amount ≤ most_lump) lumps
 
--- the payments that are charged are small: lumps of at most 10^12, or sojourn payments that obey rule 11
-abbrev pub AreSmallPayments : (amount : ℤ) → Product → Type 0
-AreSmallPayments amount product = if product.pattern.every == 0
-    then AreSmallSojourns product.months (charged_sojourns amount product)
-    else AreSmallLumps (charged_lumps amount product)
+-- the payments that are charged are small: sojourn payments that obey rule 11, or lumps of at most 10^12
+pub record AreSmallPayments (amount : ℤ) (product : Product) : Type 0 where
+  pub continuous : product.pattern.every ≡ 0 → AreSmallSojourns product.months (charged_sojourns amount product)
+  pub dated : 1 ≤ product.pattern.every → AreSmallLumps (charged_lumps amount product)
 
 -- what the parts of a charge ask, by their numbers: 4, a premium table; 5, small payments; 6, of a continuous premium,
 -- payments that go on in whole numbers at its end

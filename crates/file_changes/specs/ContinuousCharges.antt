@@ -1,5 +1,5 @@
--- A continuous premium that is charged: an amount a year is taken off the sojourn payments of the payers, up to a month.
--- This product's own.
+-- A continuous premium that is charged: an amount a year is taken off the sojourn payments of the payers, up to a
+-- month. This product's own.
 use Rattle.std.specs.Prelude.{ℕ, ◌-◌, ◌^◌, ℤ, pos, ◌-ℤ◌, ◌==◌, nat_lt, not, Bool, if◌then◌else◌}
 use Rattle.std.specs.Prelude.{List, [], ◌∷◌, ◌++◌, map, filter}
 use Rattle.std.specs.List.{list_any}
