@@ -6,4 +6,6 @@ pub mod Lists
 pub mod Lumps
 pub mod Parts
 pub mod Pieces
+pub mod StepMonths
+pub mod StepSizes
 pub mod Words

@@ -13,7 +13,8 @@ use Rattle.curve_pieces.specs.declared.piece.Piece.{Piece}
 use Rattle.curve_pieces.specs.PiecewiseCurves.{IsAllowed}
 use Rattle.curve_pieces.specs.Records.{record_of, records_of}
 use Rattle.product_reader.proofs.Grown.{one_more_of}
-use Rattle.file_changes.specs.Asks.{AreWords, HaveWords}
+use Rattle.file_changes.specs.Asks.{HaveWords}
+use Rattle.file_changes.specs.ContinuousAsks.{AreWords}
 use Rattle.file_changes.specs.BasisChanges.{changed_coefficients, changed_piece, changed_pieces}
 
 -- one piece more

@@ -6,7 +6,7 @@ use Rattle.std.proofs.lemmas.Int.{ints, fits_signed_mul}
 use Rattle.std.proofs.lemmas.List.{get_or-map, length-map}
 use Rattle.whole_laws.proofs.ShortLists.{six_are_all}
 use Rattle.named_numbers.specs.Numbers.{most_denominator}
-use Rattle.file_changes.specs.Asks.{AreWords}
+use Rattle.file_changes.specs.ContinuousAsks.{AreWords}
 use Rattle.file_changes.specs.BasisChanges.{changed_coefficients}
 
 -- nothing times a number is nothing

@@ -4,7 +4,7 @@ ghost use Rattle.std.specs.Prelude.{◌≡◌, ◌⊎◌, ◌≤◌, pos, ◌+�
 ghost use Rattle.std.specs.Int.{w64};
 ghost use Rattle.named_numbers.specs.Numbers.{most_denominator};
 ghost use Rattle.curve_pieces.specs.Records.{record_of};
-ghost use Rattle.file_changes.specs.Asks.{AreWords};
+ghost use Rattle.file_changes.specs.ContinuousAsks.{AreWords};
 ghost use Rattle.file_changes.specs.BasisChanges as basis;
 
 use curve_pieces::Piece;

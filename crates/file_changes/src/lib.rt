@@ -15,6 +15,7 @@ mod finer;
 mod laws;
 mod rates;
 mod shifting;
+mod step_sizes;
 #[cfg(test)]
 mod tests;
 

@@ -1,7 +1,7 @@
 use Rattle.std.proofs.Common.{◌≡◌, pos, get_or, length, ap, arith, rules, subst, FitsSigned, List, ℤ}
 use Rattle.std.specs.Int.{w64, w128}
 use Rattle.std.proofs.lemmas.Int.{to_z-of_z}
-use Rattle.file_changes.specs.Asks.{AreWords}
+use Rattle.file_changes.specs.ContinuousAsks.{AreWords}
 use Rattle.file_changes.proofs.Words.{first_word, later_word, given_changed, six_words}
 use Rattle.file_changes.proofs.coefficients.changed_piece.Goals as goal
 

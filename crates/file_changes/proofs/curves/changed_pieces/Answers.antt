@@ -6,7 +6,7 @@ use Rattle.std.proofs.lemmas.List.{length-map}
 use Rattle.model_specs.specs.Curve as model
 use Rattle.curve_pieces.specs.Records.{record_of, records_of}
 use Rattle.product_reader.proofs.Grown.{all_made}
-use Rattle.file_changes.specs.Asks.{AreWords}
+use Rattle.file_changes.specs.ContinuousAsks.{AreWords}
 use Rattle.file_changes.specs.BasisChanges.{changed_piece}
 use Rattle.file_changes.proofs.Pieces.{piece_more, words_more, piece_is_too_large}
 use Rattle.file_changes.proofs.curves.changed_pieces.Goals as goal
