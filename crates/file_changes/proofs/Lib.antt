@@ -1,9 +1,11 @@
 pub mod Bases
 pub mod ChargeParts
 pub mod ChargedLumps
+pub mod ChargedSteps
 pub mod Completions
 pub mod Lists
 pub mod Lumps
 pub mod Parts
 pub mod Pieces
+pub mod StepStarts
 pub mod Words
