@@ -1,6 +1,8 @@
 pub mod Bases
 pub mod ChargeParts
 pub mod ChargedLumps
+pub mod ChargedProducts
+pub mod ChargedSojourns
 pub mod ChargedSteps
 pub mod Completions
 pub mod Lists

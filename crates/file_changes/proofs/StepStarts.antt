@@ -68,9 +68,10 @@ climb_after low until high (s ∷ steps) order climb =
   where
     first : (b : Bool) → nat_lt until s.from ≡ b → Climb (suc until) high (steps_after until steps)
         → Climb (suc until) high (cond b (s ∷ steps_after until steps) (steps_after until steps))
-    first true is rest =
-        (omega (arith, ltb-true until s.from is),
-        climb_filter (λ s. nat_lt until s.from) (suc s.from) high steps climb.1)
+    first true is rest = (
+      omega (arith, ltb-true until s.from is),
+      climb_filter (λ s. nat_lt until s.from) (suc s.from) high steps climb.1,
+    )
     first false is rest = rest
 
 -- starts that rise below the term climb
@@ -84,9 +85,11 @@ rising_climb months (s ∷ steps) starts = each s steps 0 (omega arith) starts.r
         → ((k : ℕ) → k < length (step_starts (s ∷ steps)) → get_or (step_starts (s ∷ steps)) k 0 < months)
         → Climb low months (s ∷ steps)
     each s [] low order rise below = (order, omega (arith, below 0 (omega arith)))
-    each s (t ∷ steps) low order rise below =
-        (order, each t steps (suc s.from) (omega (arith, rise 0 (omega arith)))
-        (λ k inside. rise (suc k) (omega (arith, inside))) (λ k inside. below (suc k) (omega (arith, inside))))
+    each s (t ∷ steps) low order rise below = (
+      order,
+      each t steps (suc s.from) (omega (arith, rise 0 (omega arith)))
+          (λ k inside. rise (suc k) (omega (arith, inside))) (λ k inside. below (suc k) (omega (arith, inside))),
+    )
 
 -- and the other way round
 pub climb_rises : (low high : ℕ) (steps : List Step) → Climb low high steps → (k : ℕ)
@@ -97,7 +100,7 @@ climb_rises low high (s ∷ t ∷ steps) climb zero inside = omega (arith, climb
 climb_rises low high (s ∷ t ∷ steps) climb (suc k) inside =
     climb_rises (suc s.from) high (t ∷ steps) climb.1 k (omega (arith, inside))
 
--- there is a place between the first month and the last one
+-- the months that starts are between are in order
 climb_order : (low high : ℕ) (steps : List Step) → Climb low high steps → low ≤ high
 climb_order low high [] climb = climb
 climb_order low high (s ∷ steps) climb =
