@@ -11,11 +11,11 @@ use Rattle.std.proofs.lemmas.Simd.{map-map}
 use Rattle.whole_laws.specs.Whole.{places}
 use Rattle.whole_laws.proofs.ListsByPlace.{All-list_of}
 use Rattle.model_specs.specs.Product.{Product, Lump}
-use Rattle.model_specs.specs.RecordRules.{AreDistinct, IsWellFormed}
+use Rattle.model_specs.specs.RecordRules.{AreDistinct, HasGoodLumps, IsWellFormed}
 use Rattle.joint_life.proofs.DistinctLists.{distinct_append, distinct_filter, distinct_map, distinct_places}
 use Rattle.file_changes.specs.Asks.{AreSmallLumps}
 use Rattle.file_changes.specs.Charges.{has_lump, is_missing, zero_lump}
-use Rattle.file_changes.specs.Charges.{completed_lumps, charged_lump, charged_lumps, charged}
+use Rattle.file_changes.specs.Charges.{completed_lumps, charged_lump, charged_lumps, with_lumps}
 
 -- what fails where a test and its contrary hold together
 second_fails : (a b : Bool) → (a && not b) ≡ true → b ≡ false
@@ -102,61 +102,16 @@ module _ (p : Product) (h : IsWellFormed p) where
       (distinct_append {A = ℕ × ℕ} (0, 0) (map place_of p.lumps) (map place_of (map (zero_lump s) those))
       h.lumps.distinct zeros_distinct apart)
 
-  pub charged_is_well_formed : (amount : ℤ) → AreSmallLumps (charged_lumps amount p) → IsWellFormed (charged amount p)
-  charged_is_well_formed amount small = record {
-    names = record {
-      name = h.names.name;
-      some_state = h.names.some_state;
-      at_most_twelve = h.names.at_most_twelve;
-      states = h.names.states;
-      distinct = h.names.distinct;
-    };
-    head = record {
-      some_month = h.head.some_month;
-      at_most_a_century = h.head.at_most_a_century;
-      some_denominator = h.head.some_denominator;
-      largest_denominator = h.head.largest_denominator;
-      start = h.head.start;
-    };
-    transitions = record {
-      from = h.transitions.from;
-      to = h.transitions.to;
-      different = h.transitions.different;
-      distinct = h.transitions.distinct;
-    };
-    curves = record {
-      interest = h.curves.interest;
-      rates = h.curves.rates;
-      bounded_interest = h.curves.bounded_interest;
-      bounded_rates = h.curves.bounded_rates;
-    };
-    payments = record {
-      states = h.payments.states;
-      distinct = h.payments.distinct;
-      sojourns = h.payments.sojourns;
-      sums = h.payments.sums;
-      bounded_sojourns = h.payments.bounded_sojourns;
-      bounded_sums = h.payments.bounded_sums;
-    };
-    lumps = record {
-      dates = All-map (λ (l : Lump). l.month ≤ p.months) (charged_lump amount p.pattern)
-          (completed_lumps s p.lumps p.pattern)
-          (All-append (λ (l : Lump). l.month ≤ p.months) p.lumps (map (zero_lump s) those) h.lumps.dates zeros_dates);
-      states = All-map (λ (l : Lump). l.state < s) (charged_lump amount p.pattern)
-          (completed_lumps s p.lumps p.pattern)
-          (All-append (λ (l : Lump). l.state < s) p.lumps (map (zero_lump s) those) h.lumps.states zeros_states);
-      amounts = small;
-      distinct = subst (AreDistinct {A = ℕ × ℕ} (0, 0)) (sym (map-map {C =
-          ℕ × ℕ} place_of (charged_lump amount p.pattern)
-          (completed_lumps s p.lumps p.pattern))) completed_distinct;
-    };
-    pattern = record {
-      payers = h.pattern.payers;
-      distinct = h.pattern.distinct;
-      until_above_0 = h.pattern.until_above_0;
-      until_within = h.pattern.until_within;
-      every = h.pattern.every;
-      never_until = h.pattern.never_until;
-      never_every = h.pattern.never_every;
-    };
+  pub charged_lumps_are_good : (amount : ℤ) → AreSmallLumps (charged_lumps amount p)
+      → HasGoodLumps (with_lumps (charged_lumps amount p) p)
+  charged_lumps_are_good amount small = record {
+    dates = All-map (λ (l : Lump). l.month ≤ p.months) (charged_lump amount p.pattern)
+        (completed_lumps s p.lumps p.pattern)
+        (All-append (λ (l : Lump). l.month ≤ p.months) p.lumps (map (zero_lump s) those) h.lumps.dates zeros_dates);
+    states = All-map (λ (l : Lump). l.state < s) (charged_lump amount p.pattern)
+        (completed_lumps s p.lumps p.pattern)
+        (All-append (λ (l : Lump). l.state < s) p.lumps (map (zero_lump s) those) h.lumps.states zeros_states);
+    amounts = small;
+    distinct = subst (AreDistinct {A = ℕ × ℕ} (0, 0)) (sym (map-map {C = ℕ × ℕ} place_of
+        (charged_lump amount p.pattern) (completed_lumps s p.lumps p.pattern))) completed_distinct;
   }

@@ -1,6 +1,9 @@
 pub mod Bases
 pub mod ChargeParts
 pub mod ChargedLumps
+pub mod ChargedProducts
+pub mod ChargedSojourns
+pub mod ChargedSteps
 pub mod Completions
 pub mod Lists
 pub mod Lumps
@@ -8,4 +11,5 @@ pub mod Parts
 pub mod Pieces
 pub mod StepMonths
 pub mod StepSizes
+pub mod StepStarts
 pub mod Words

@@ -1,16 +1,18 @@
 -- The test of rule 11, which decides it.
 use Rattle.std.proofs.Common.{◌≡◌, ℕ, suc, ◌+◌, ◌*◌, ◌^◌, ◌<◌, ◌≤◌, length, sym, ◌∙◌}
 use Rattle.std.specs.Prelude.{◌↔◌, true, false, nat_le, unsigned_abs, slice_index_or, List, pos}
+use Rattle.std.specs.List.{list_all}
 use Rattle.std.proofs.lemmas.Bool.{le-leb, leb-true, false≢true}
 use Rattle.std.proofs.lemmas.List.Sums.{list_all-from_AllPass}
 use Rattle.named_numbers.specs.Numbers.{most_amount, most_coefficient, bernstein_unit}
+use Rattle.whole_laws.specs.Whole.{places}
 use Rattle.whole_laws.proofs.ListsByPlace.{holds_at_places}
 use Rattle.whole_laws.proofs.Members.{each_passes}
 use Rattle.whole_laws.proofs.Tests.{both_pass, passes_both}
 use Rattle.model_specs.specs.MonthNumbers.{coefficient_at, bernstein_numerators}
 use Rattle.model_specs.specs.Payments.{constant_step}
 use Rattle.model_specs.specs.Product.{Step}
-use Rattle.model_specs.specs.RecordRules.{IsBoundedStep, IsBoundedPayment, months_of, step_starts}
+use Rattle.model_specs.specs.RecordRules.{IsBoundedStep, IsBoundedPayment, is_bounded, months_of, step_starts}
 use Rattle.model_laws.proofs.BoundedCoefficients.{bounded_from_test}
 use Rattle.product_file.specs.PaymentRules.{are_small, is_bounded_step}
 use Rattle.file_checks.proofs.SizeLemmas.{all_of}
@@ -21,14 +23,16 @@ test_decides step s = (bounded, passes)
   where
     bounded : is_bounded_step step s ≡ true → IsBoundedStep step.c s
     bounded h = record {
-      coefficients = bounded_from_test step.c s (both_pass _ _ h).0;
+      coefficients = bounded_from_test step.c s (both_pass (is_bounded step.c s)
+          (list_all (λ k. are_small (bernstein_numerators step.c k)) (places s)) h).0;
       amounts = λ k below i d inside. leb-true _ _
           (each_passes (λ b. nat_le (unsigned_abs b) (most_amount * bernstein_unit)) (bernstein_numerators step.c k)
-          (holds_at_places s (λ m. are_small (bernstein_numerators step.c m)) (both_pass _ _ h).1 k below) i d inside);
+          (holds_at_places s (λ m. are_small (bernstein_numerators step.c m)) (both_pass (is_bounded step.c s)
+          (list_all (λ k. are_small (bernstein_numerators step.c k)) (places s)) h).1 k below) i d inside);
     }
 
     passes : IsBoundedStep step.c s → is_bounded_step step s ≡ true
-    passes h = passes_both _ _
+    passes h = passes_both (is_bounded step.c s) (list_all (λ k. are_small (bernstein_numerators step.c k)) (places s))
         (sym (all_of (λ i. nat_le (unsigned_abs (coefficient_at step.c i) * s ^ i) most_coefficient) (length step.c)
         (λ i. i) (λ i below. le-leb _ _ (h.coefficients i below))))
         (sym (all_of (λ k. are_small (bernstein_numerators step.c k)) s (λ k. k)

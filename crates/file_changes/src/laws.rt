@@ -2,7 +2,7 @@
 
 ghost use Rattle.file_changes.specs.Laws.{ChargedProductsAreWellFormed};
 
-/// A charged product obeys rules 3 to 14 where its lumps are small enough.
+/// A charged product obeys rules 3 to 14 where all parts of the charge hold.
 pub fn charged_products_are_well_formed()
     ensures { ChargedProductsAreWellFormed }
 {}
