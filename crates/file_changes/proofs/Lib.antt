@@ -5,6 +5,8 @@ pub mod ChargedProducts
 pub mod ChargedSojourns
 pub mod ChargedSteps
 pub mod Completions
+pub mod Filtered
+pub mod LessSteps
 pub mod Lists
 pub mod Lumps
 pub mod Parts

@@ -13,6 +13,7 @@ mod copies;
 mod curves;
 mod finer;
 mod laws;
+mod less;
 mod rates;
 mod shifting;
 mod step_sizes;
