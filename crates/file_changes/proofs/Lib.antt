@@ -4,6 +4,7 @@ pub mod ChargedLumps
 pub mod ChargedProducts
 pub mod ChargedSojourns
 pub mod ChargedSteps
+pub mod ChargedWords
 pub mod Completions
 pub mod Filtered
 pub mod LessSteps
