@@ -4,13 +4,34 @@ use Rattle.model_specs.specs.Product.{Product, Lump, PremiumPattern}
 use Rattle.curve_pieces.specs.BrokenRules.{IsFirstBroken}
 use Rattle.payment_plan.specs.Payments.{Payments}
 use Rattle.product_model.specs.Views.{payments_of}
-use Rattle.file_changes.specs.Asks.{ChargeAsks, AreSmallLumps}
+use Rattle.file_changes.specs.Asks.{ChargeAsks, AreSmallPayments, AreSmallLumps}
 use Rattle.file_changes.specs.Charges.{completed_lumps, charged_lump, charged_lumps}
+use Rattle.file_changes.specs.ContinuousAsks.{AreSmallSojourns, PayersGoOnWhole}
+use Rattle.file_changes.specs.ContinuousCharges.{charged_sojourns}
 
 module _ (amount : ℤ) (p : Product) where
+  -- small payments of the one kind of premium and of the other
+  pub small_lumps : 1 ≤ p.pattern.every → AreSmallLumps (charged_lumps amount p) → AreSmallPayments amount p
+  small_lumps dated small = record { sojourns = λ never. absurd (omega (arith, never, dated)); lumps = λ _. small }
+
+  pub small_sojourns : p.pattern.every ≡ 0 → AreSmallSojourns p.months (charged_sojourns amount p)
+      → AreSmallPayments amount p
+  small_sojourns continuous small =
+      record { sojourns = λ _. small; lumps = λ dated. absurd (omega (arith, continuous, dated)) }
+
+  -- part 4 is the first where there is no payer
+  pub first_is_4 : ¬ (1 ≤ length p.pattern.payers) → IsFirstBroken (ChargeAsks amount p) 4
+  first_is_4 none = record { broken = none; before = before }
+    where
+      before : (i : ℕ) → i < 4 → ChargeAsks amount p i
+      before zero low = tt
+      before (suc zero) low = tt
+      before (suc (suc zero)) low = tt
+      before (suc (suc (suc zero))) low = tt
+      before (suc (suc (suc (suc i)))) low = absurd (omega (arith, low))
+
   -- part 5 is the first where part 4 holds, and part 6 where both do
-  pub first_is_5 : 1 ≤ length p.pattern.payers → ¬ AreSmallLumps (charged_lumps amount p)
-      → IsFirstBroken (ChargeAsks amount p) 5
+  pub first_is_5 : 1 ≤ length p.pattern.payers → ¬ AreSmallPayments amount p → IsFirstBroken (ChargeAsks amount p) 5
   first_is_5 some wide = record { broken = wide; before = before }
     where
       before : (i : ℕ) → i < 5 → ChargeAsks amount p i
@@ -21,9 +42,9 @@ module _ (amount : ℤ) (p : Product) where
       before (suc (suc (suc (suc zero)))) low = some
       before (suc (suc (suc (suc (suc i))))) low = absurd (omega (arith, low))
 
-  pub first_is_6 : 1 ≤ length p.pattern.payers → AreSmallLumps (charged_lumps amount p) → ¬ (1 ≤ p.pattern.every)
-      → IsFirstBroken (ChargeAsks amount p) 6
-  first_is_6 some small never = record { broken = never; before = before }
+  pub first_is_6 : 1 ≤ length p.pattern.payers → AreSmallPayments amount p → p.pattern.every ≡ 0
+      → ¬ PayersGoOnWhole p → IsFirstBroken (ChargeAsks amount p) 6
+  first_is_6 some small continuous parts = record { broken = λ whole. parts (whole continuous); before = before }
     where
       before : (i : ℕ) → i < 6 → ChargeAsks amount p i
       before zero low = tt
@@ -35,16 +56,16 @@ module _ (amount : ℤ) (p : Product) where
       before (suc (suc (suc (suc (suc (suc i)))))) low = absurd (omega (arith, low))
 
   -- all parts hold where these three do
-  pub all_parts_hold : 1 ≤ length p.pattern.payers → AreSmallLumps (charged_lumps amount p) → 1 ≤ p.pattern.every
-      → (part : ℕ) → ChargeAsks amount p part
-  all_parts_hold some small dated zero = tt
-  all_parts_hold some small dated (suc zero) = tt
-  all_parts_hold some small dated (suc (suc zero)) = tt
-  all_parts_hold some small dated (suc (suc (suc zero))) = tt
-  all_parts_hold some small dated (suc (suc (suc (suc zero)))) = some
-  all_parts_hold some small dated (suc (suc (suc (suc (suc zero))))) = small
-  all_parts_hold some small dated (suc (suc (suc (suc (suc (suc zero)))))) = dated
-  all_parts_hold some small dated (suc (suc (suc (suc (suc (suc (suc part))))))) = tt
+  pub all_parts_hold : 1 ≤ length p.pattern.payers → AreSmallPayments amount p
+      → (p.pattern.every ≡ 0 → PayersGoOnWhole p) → (part : ℕ) → ChargeAsks amount p part
+  all_parts_hold some small whole zero = tt
+  all_parts_hold some small whole (suc zero) = tt
+  all_parts_hold some small whole (suc (suc zero)) = tt
+  all_parts_hold some small whole (suc (suc (suc zero))) = tt
+  all_parts_hold some small whole (suc (suc (suc (suc zero)))) = some
+  all_parts_hold some small whole (suc (suc (suc (suc (suc zero))))) = small
+  all_parts_hold some small whole (suc (suc (suc (suc (suc (suc zero)))))) = whole
+  all_parts_hold some small whole (suc (suc (suc (suc (suc (suc (suc part))))))) = tt
 
   -- the charged lumps are those of the parts of the plan
   pub charged_by_parts : (plan : Payments) (states : ℕ) (lumps : List Lump) (pattern : PremiumPattern)

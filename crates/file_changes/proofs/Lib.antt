@@ -12,6 +12,7 @@ pub mod Lists
 pub mod Lumps
 pub mod Parts
 pub mod Pieces
+pub mod OwnSojourns
 pub mod StepMonths
 pub mod StepSizes
 pub mod StepStarts

@@ -4,7 +4,7 @@ use Rattle.std.proofs.Common.{List, [], ◌∷◌, length, get_or, arith, ap, sy
 use Rattle.std.specs.Int.{w64, w128}
 use Rattle.std.proofs.lemmas.Int.{ints, fits_signed_mul}
 use Rattle.std.proofs.lemmas.List.{get_or-map, length-map}
-use Rattle.whole_laws.proofs.ShortLists.{six_are_all}
+use Rattle.whole_laws.proofs.ShortLists.{four_are_all, six_are_all}
 use Rattle.named_numbers.specs.Numbers.{most_denominator}
 use Rattle.file_changes.specs.ContinuousAsks.{AreWords}
 use Rattle.file_changes.specs.BasisChanges.{changed_coefficients}
@@ -76,3 +76,15 @@ pub given_changed : (factor more : ℤ) (p : List ℤ) (a b c d e f : ℤ) → l
     → f ≡ factor *ℤ get_or p 5 (pos 0) → a ∷ b ∷ c ∷ d ∷ e ∷ f ∷ [] ≡ changed_coefficients factor more p
 given_changed factor more p a b c d e f six ha hb hc hd he hf =
     rw (ha, hb, hc, hd, he, hf) (sym (changed_of_six factor more p six))
+
+-- four numbers are of 64 bits where each is
+pub four_words : (p : List ℤ) → length p ≡ 4 → FitsSigned w64 (get_or p 0 (pos 0)) → FitsSigned w64 (get_or p 1 (pos 0))
+    → FitsSigned w64 (get_or p 2 (pos 0)) → FitsSigned w64 (get_or p 3 (pos 0)) → AreWords p
+four_words p four ha hb hc hd = subst AreWords (sym (four_are_all p four)) each
+  where
+    each : AreWords (get_or p 0 (pos 0) ∷ get_or p 1 (pos 0) ∷ get_or p 2 (pos 0) ∷ get_or p 3 (pos 0) ∷ [])
+    each zero none below = ha
+    each (suc zero) none below = hb
+    each (suc (suc zero)) none below = hc
+    each (suc (suc (suc zero))) none below = hd
+    each (suc (suc (suc (suc k)))) none below = absurd (omega (arith, below))

@@ -6,8 +6,9 @@ use std::alloc::AllocError;
 use thiserror::Error;
 
 /// The first part that is broken: 1, the denominator is above 10^12; 2, a coefficient of a curve has more than 64 bits
-/// or breaks rule 9; 3, there is no such transition; 4, there is no premium table; 5, a lump is above 10^12; 6, the
-/// premium is not due at dates.
+/// or breaks rule 9; 3, there is no such transition; 4, there is no premium table; 5, a lump is above 10^12, or a step
+/// has a coefficient of more than 64 bits or breaks rule 11; 6, a step of a payer does not go on in whole coefficients
+/// where a continuous premium ends.
 #[derive(Clone, Copy, Debug, PartialEq, Eq)]
 pub struct ChangeBreak {
     pub part: u8,

@@ -19,8 +19,8 @@ abbrev pub change_demands : List (List ℕ)
 change_demands = [] ∷ codes "the changed den is at most 1000000000000"
     ∷ codes "the changed coefficients are whole numbers of 64 bits that keep the limits of a product file"
     ∷ codes "the file has a transition between these two states" ∷ codes "the file has a premium table"
-    ∷ codes "the changed lumps and steps are at most 1000000000000 in size"
-    ∷ codes "the premium is due at dates: every is at least 1" ∷ []
+    ∷ codes "the changed lumps and steps are whole numbers of 64 bits that keep the limits of a product file"
+    ∷ codes "each payer's payments go on in whole coefficients where the premium ends" ∷ []
 
 -- where the parts of `join` are found
 abbrev pub join_keys : List (List ℕ)

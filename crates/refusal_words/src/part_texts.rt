@@ -43,8 +43,9 @@ fn change_demand(part: u8) -> &'static [u8]
             b"the changed coefficients are whole numbers of 64 bits that keep the limits of a product file",
         3 => b"the file has a transition between these two states",
         4 => b"the file has a premium table",
-        5 => b"the changed lumps and steps are at most 1000000000000 in size",
-        6 => b"the premium is due at dates: every is at least 1",
+        5 =>
+            b"the changed lumps and steps are whole numbers of 64 bits that keep the limits of a product file",
+        6 => b"each payer's payments go on in whole coefficients where the premium ends",
         _ => b"",
     }
 }

@@ -279,6 +279,10 @@ fn parts_and_rows_say_what_they_demand(rt: HostRuntime) -> Result<(), Fail> {
             "rule: the file has a premium table\nat: premium\n",
         ),
         (
+            change_lines(alloc, 6)?,
+            "rule: each payer's payments go on in whole coefficients where the premium ends\nat: steps\n",
+        ),
+        (
             row(CsvTable::Claims, 0, 0)?,
             "rule: the first record is month,state,reserve\nat: record 0\n",
         ),
