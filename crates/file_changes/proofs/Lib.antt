@@ -10,6 +10,7 @@ pub mod Filtered
 pub mod LessSteps
 pub mod Lists
 pub mod Lumps
+pub mod PaidSojourns
 pub mod Parts
 pub mod Pieces
 pub mod OwnSojourns

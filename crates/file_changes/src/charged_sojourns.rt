@@ -4,10 +4,12 @@ ghost use Rattle.std.specs.Prelude.{◌≡◌, ◌≤◌, All, IfOk, IfSome, IfN
 ghost use Rattle.named_numbers.specs.Numbers.{most_months};
 ghost use Rattle.model_specs.specs.RecordRules.{IsPayment, IsBoundedPayment};
 ghost use Rattle.payment_plan.specs.Records.{pattern_rule_of, sojourn_of, sojourns_of, steps_of};
+ghost use Rattle.payment_plan.specs.Tables.{is_payer};
 ghost use Rattle.file_changes.specs.ContinuousAsks.{AreSmallSojourns, AreSmallSteps, AreWords};
 ghost use Rattle.file_changes.specs.ContinuousCharges as continuous;
 
 use crate::charged_steps::charged_steps;
+use crate::copies::sojourn;
 use payment_plan::{PatternRule, StepAmount};
 use std::alloc::{AllocError, Global};
 
@@ -26,6 +28,13 @@ fn have_words(steps: &[StepAmount])
     for i in 0..steps.len() {
         let _first = has_words(&steps[i]);
     }
+}
+
+// Whether a state pays the premium.
+pub(crate) fn pays(rule: &PatternRule, state: usize) -> bool
+    ensures { result ≡ is_payer rule.now.payers.items state }
+{
+    rule.payers.contains(&state)
 }
 
 // A sojourn less an amount a year up to the premium's end, where its state pays the premium; none where a coefficient
@@ -48,14 +57,14 @@ fn charged_sojourn(
     ensures too_large { IfOk result (λ found. IfNone found (¬ AreSmallSteps months
         (continuous.charged_sojourn amount months (pattern_rule_of rule.now) (sojourn_of paid.now)).steps)) }
 {
-    if rule.payers.contains(&paid.0) {
-        let Some(steps) = charged_steps(alloc, &paid.1, months, rule.until, amount)? else {
-            return Ok(None);
-        };
-        Ok(Some((paid.0, steps)))
+    if pays(rule, paid.0) {
+        match charged_steps(alloc, &paid.1, months, rule.until, amount)? {
+            Some(steps) => Ok(Some((paid.0, steps))),
+            None => Ok(None),
+        }
     } else {
         have_words(&paid.1);
-        Ok(Some((paid.0, paid.1.to_vec(alloc)?)))
+        Ok(Some(sojourn(alloc, paid)?))
     }
 }
 

@@ -78,8 +78,8 @@ pub(crate) fn sums(
     Ok(sums)
 }
 
-// A sojourn.
-fn sojourn(
+/// A sojourn.
+pub(crate) fn sojourn(
     alloc: Global,
     paid: &(usize, Vec<StepAmount>),
 ) -> Result<(usize, Vec<StepAmount>), AllocError>

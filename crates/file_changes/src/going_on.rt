@@ -7,6 +7,7 @@ ghost use Rattle.payment_plan.specs.Records.{sojourn_of, sojourns_of};
 ghost use Rattle.payment_plan.specs.Tables.{is_payer};
 ghost use Rattle.file_changes.specs.ContinuousAsks.{GoesOnWhole, PayersGoOnWhole};
 
+use crate::charged_sojourns::pays;
 use crate::later::goes_on_whole;
 use payment_plan::{PatternRule, StepAmount};
 use product_model::Product;
@@ -22,7 +23,7 @@ fn is_whole(paid: &(usize, Vec<StepAmount>), rule: &PatternRule, months: u32) ->
     ensures payer { IsFalse result → IsTrue (is_payer rule.now.payers.items (sojourn_of paid.now).state) }
     ensures not_whole { IsFalse result → ¬ GoesOnWhole rule.now.until (sojourn_of paid.now).steps }
 {
-    !rule.payers.contains(&paid.0) || goes_on_whole(&paid.1, rule.until, months)
+    !pays(rule, paid.0) || goes_on_whole(&paid.1, rule.until, months)
 }
 
 // Whether all payers do.
