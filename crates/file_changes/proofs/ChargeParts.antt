@@ -1,23 +1,24 @@
 -- The parts of a charge, and the first one that is broken.
-use Rattle.std.proofs.Common.{◌≡◌, ℕ, zero, suc, ◌<◌, ◌≤◌, ℤ, List, length, map, arith, ap, ◌∙◌}
-use Rattle.model_specs.specs.Product.{Product, Lump, PremiumPattern}
+use Rattle.std.proofs.Common.{◌≡◌, ℕ, zero, suc, ◌<◌, ◌≤◌, ℤ, List, length, map, arith, refl, ap, ◌∙◌}
+use Rattle.std.proofs.lemmas.Bool.{eq-eqb, ne_eqb}
+use Rattle.model_specs.specs.Product.{Product, Lump, PremiumPattern, Sojourn}
 use Rattle.curve_pieces.specs.BrokenRules.{IsFirstBroken}
 use Rattle.payment_plan.specs.Payments.{Payments}
 use Rattle.product_model.specs.Views.{payments_of}
 use Rattle.file_changes.specs.Asks.{ChargeAsks, AreSmallPayments, AreSmallLumps}
-use Rattle.file_changes.specs.Charges.{completed_lumps, charged_lump, charged_lumps}
+use Rattle.file_changes.specs.Charges.{charged, completed_lumps, charged_lump, charged_lumps, with_lumps, with_sojourns}
 use Rattle.file_changes.specs.ContinuousAsks.{AreSmallSojourns, PayersGoOnWhole}
-use Rattle.file_changes.specs.ContinuousCharges.{charged_sojourns}
+use Rattle.file_changes.specs.ContinuousCharges.{charged_sojourn, charged_sojourns, completed_sojourns}
 
 module _ (amount : ℤ) (p : Product) where
   -- small payments of the one kind of premium and of the other
   pub small_lumps : 1 ≤ p.pattern.every → AreSmallLumps (charged_lumps amount p) → AreSmallPayments amount p
-  small_lumps dated small = record { sojourns = λ never. absurd (omega (arith, never, dated)); lumps = λ _. small }
+  small_lumps dated small = record { continuous = λ never. absurd (omega (arith, never, dated)); dated = λ _. small }
 
   pub small_sojourns : p.pattern.every ≡ 0 → AreSmallSojourns p.months (charged_sojourns amount p)
       → AreSmallPayments amount p
   small_sojourns continuous small =
-      record { sojourns = λ _. small; lumps = λ dated. absurd (omega (arith, continuous, dated)) }
+      record { continuous = λ _. small; dated = λ dated. absurd (omega (arith, continuous, dated)) }
 
   -- part 4 is the first where there is no payer
   pub first_is_4 : ¬ (1 ≤ length p.pattern.payers) → IsFirstBroken (ChargeAsks amount p) 4
@@ -79,3 +80,22 @@ module _ (amount : ℤ) (p : Product) where
       (c ∙ ap (λ (ps : Payments). ps.lumps) a)
       ∙ ap (λ rule. map (charged_lump amount rule) (completed_lumps (length p.states) p.lumps rule))
       (d ∙ ap (λ (ps : Payments). ps.pattern) a)
+
+  -- what is charged of a premium of either kind
+  pub charged_at_dates : 1 ≤ p.pattern.every → charged amount p ≡ with_lumps (charged_lumps amount p) p
+  charged_at_dates dated = rw (ne_eqb p.pattern.every 0 (λ none. omega (arith, dated, none))) refl
+
+  pub charged_all_the_time : p.pattern.every ≡ 0 → charged amount p ≡ with_sojourns (charged_sojourns amount p) p
+  charged_all_the_time continuous = rw (eq-eqb p.pattern.every 0 continuous) refl
+
+  -- the charged sojourns are those of the parts of the plan
+  pub charged_sojourns_by_parts : (plan : Payments) (months : ℕ) (pattern : PremiumPattern) (all : List Sojourn)
+      → plan ≡ payments_of p → months ≡ p.months → pattern ≡ plan.pattern
+      → all ≡ completed_sojourns plan.sojourns pattern
+      → map (charged_sojourn amount months pattern) all ≡ charged_sojourns amount p
+  charged_sojourns_by_parts plan months pattern all a b c d =
+      ap (map (charged_sojourn amount months pattern)) d
+      ∙ ap (λ n. map (charged_sojourn amount n pattern) (completed_sojourns plan.sojourns pattern)) b
+      ∙ ap (λ rule. map (charged_sojourn amount p.months rule) (completed_sojourns plan.sojourns rule)) c
+      ∙ ap (λ (ps : Payments). map (charged_sojourn amount p.months ps.pattern)
+      (completed_sojourns ps.sojourns ps.pattern)) a

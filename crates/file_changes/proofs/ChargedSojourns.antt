@@ -1,5 +1,5 @@
 -- Charged sojourn payments obey rules 10 and 11.
-use Rattle.std.proofs.Common.{◌≡◌, ◌≢◌, ℕ, ◌<◌, ◌≤◌, ℤ, List, [], length, map, get_or, ap, sym, ◌∙◌, subst}
+use Rattle.std.proofs.Common.{◌≡◌, ◌≢◌, ℕ, zero, suc, ◌∷◌, arith, ◌<◌, ◌≤◌, ℤ, List, [], length, map, get_or, ap, sym, ◌∙◌, subst}
 use Rattle.std.specs.Prelude.{All, Bool, true, false, not, filter, ◌==◌, cond}
 use Rattle.std.proofs.lemmas.Bool.{eq-eqb, not-true}
 use Rattle.std.proofs.lemmas.List.{get_or-map, length-map, map-append}
@@ -7,8 +7,10 @@ use Rattle.std.proofs.lemmas.List.Elements.{All-append, All-map, All-filter, fil
 use Rattle.std.proofs.lemmas.List.Folds.{list_any_at}
 use Rattle.std.proofs.lemmas.Simd.{map-map}
 use Rattle.model_specs.specs.Product.{Product, Sojourn}
-use Rattle.model_specs.specs.RecordRules.{AreDistinct, HasGoodPayments, IsPayment, IsWellFormed}
+use Rattle.model_specs.specs.RecordRules.{AreDistinct, HasGoodPayments, IsBoundedPayment, IsPayment, IsWellFormed}
+use Rattle.model_specs.specs.RecordRules.{months_of}
 use Rattle.payment_plan.specs.Tables.{is_payer}
+use Rattle.payment_plan.proofs.Patterns.{unit_bounded}
 use Rattle.joint_life.proofs.DistinctLists.{distinct_append, distinct_filter, distinct_map}
 use Rattle.file_changes.specs.ContinuousAsks.{AreSmallSojourns}
 use Rattle.file_changes.specs.ContinuousCharges.{charged_sojourn, charged_sojourns, charged_steps, completed_sojourns}
@@ -77,9 +79,20 @@ module _ (product : Product) (formed : IsWellFormed product) where
   abbrev IsPaid : Sojourn → Type 0
   IsPaid s = IsPayment product.months s.steps
 
-  completed_payments : All IsPaid completed
+  pub completed_payments : All IsPaid completed
   completed_payments = All-append IsPaid product.sojourns (map zero_sojourn those) formed.payments.sojourns
       (All-map IsPaid zero_sojourn those (λ k d below. nothing_is_payment product.months formed.head.some_month))
+
+  abbrev IsBounded : Sojourn → Type 0
+  IsBounded s = IsBoundedPayment product.months s.steps
+
+  nothing_is_bounded : (payer : ℕ) → IsBounded (zero_sojourn payer)
+  nothing_is_bounded payer zero inside = unit_bounded false (months_of product.months (0 ∷ []) 0)
+  nothing_is_bounded payer (suc k) inside = absurd (omega (arith, inside))
+
+  pub completed_bounds : All IsBounded completed
+  completed_bounds = All-append IsBounded product.sojourns (map zero_sojourn those) formed.payments.bounded_sojourns
+      (All-map IsBounded zero_sojourn those (λ k d below. nothing_is_bounded (get_or those k d)))
 
   module _ (amount : ℤ) (paid : 1 ≤ length payers) where
     abbrev charge : Sojourn → Sojourn
