@@ -9,7 +9,7 @@ use Rattle.claim_audit.specs.Readings.{record_at}
 use Rattle.decimal_in.specs.Decimals.{millionths_of}
 use Rattle.total_merge.specs.declared.reading.MergeError.{MergeError}
 use Rattle.total_merge.specs.declared.reading.MergeError.TheVariants as error
-use Rattle.total_merge.specs.Entries.{Entry, head, IsEntry, IsInRange}
+use Rattle.total_merge.specs.Entries.{Entry, head, IsEntry, IsInRange, IsNarrow}
 use Rattle.total_merge.specs.Tables.{AreEntries, HaveHead, IsRight, IsWrong, TellsFault, TellsRow}
 
 -- one entry more
@@ -43,13 +43,23 @@ right_at (r ∷ records) entries (inl here) (suc k) within = right_at records en
 right_at (r ∷ records) entries (inr here) zero within = inr (here.0, here.2)
 right_at (r ∷ records) entries (inr here) (suc k) within = right_at records here.1 here.4 k (omega (arith, within))
 
+-- what holds of the entry of each record holds of all entries
+all_have : (Has : Entry → Type 0) → ((fields : List (List ℕ)) (entry : Entry) → IsEntry fields entry → Has entry)
+    → (records : List (List (List ℕ))) (entries : List Entry) → AreEntries records entries → All Has entries
+all_have Has each [] entries are = subst (All Has) (sym are) (All-nil Has)
+all_have Has each (r ∷ records) entries (inl here) = all_have Has each records entries here.1
+all_have Has each (r ∷ records) entries (inr here) = subst (All Has) (sym here.3)
+    (All-cons Has here.0 here.1 (each r here.0 here.2) (all_have Has each records here.1 here.4))
+
 -- the numbers of each entry are in range
 pub are_in_range : (records : List (List (List ℕ))) (entries : List Entry) → AreEntries records entries
     → All IsInRange entries
-are_in_range [] entries are = subst (All IsInRange) (sym are) (All-nil IsInRange)
-are_in_range (r ∷ records) entries (inl here) = are_in_range records entries here.1
-are_in_range (r ∷ records) entries (inr here) = subst (All IsInRange) (sym here.3)
-    (All-cons IsInRange here.0 here.1 here.2.numbers.in_range (are_in_range records here.1 here.4))
+are_in_range = all_have IsInRange (λ fields entry is. is.numbers.in_range)
+
+-- none is wider than its tolerance
+pub are_narrow : (records : List (List (List ℕ))) (entries : List Entry) → AreEntries records entries
+    → All IsNarrow entries
+are_narrow = all_have IsNarrow (λ fields entry is. is.numbers.narrow)
 
 -- no more entries than records
 are_few : (records : List (List (List ℕ))) (entries : List Entry) → AreEntries records entries

@@ -1,6 +1,6 @@
 -- A CSV text has one list of entries, or one first wrong row.
 use Rattle.std.proofs.Common.{◌≡◌, ℕ, ◌<◌, ℤ, List, [], ◌∷◌, length, inl, inr, refl, sym, ap, ap₂, subst, ◌∙◌, arith}
-use Rattle.std.specs.Prelude.{Option, Some, None, IsSome}
+use Rattle.std.specs.Prelude.{Option, Some, None}
 use Rattle.std.proofs.lemmas.Option.{none-some}
 use Rattle.decimal_in.specs.Decimals.{millionths_of, size_of}
 use Rattle.claim_audit.specs.Readings.{record_at}
@@ -9,7 +9,7 @@ use Rattle.total_merge.specs.declared.fields.Fault.{Fault}
 use Rattle.total_merge.specs.declared.fields.Fault.TheVariants as fault
 use Rattle.total_merge.specs.declared.fields.Numbers.{Numbers}
 use Rattle.total_merge.specs.Entries.{Entry, numbers_of, part_of, upper_of}
-use Rattle.total_merge.specs.Entries.{AreNumbers, FieldsHaveFault, HasFault, IsEntry}
+use Rattle.total_merge.specs.Entries.{AreNumbers, AreWithin, FieldsHaveFault, HasFault, IsEntry, IsNoTolerance}
 use Rattle.total_merge.specs.Tables.{AreEntries, AreEntriesIn, IsFirstFault, IsFirstWrong, IsFirstWrongIn}
 use Rattle.total_merge.specs.Tables.{IsRight, IsWrong, TablesHaveOneReading}
 use Rattle.total_merge.proofs.EntryLists.{head_is_no_entry, right_at}
@@ -39,6 +39,13 @@ one_entry fields a b x y =
     found_once size_of x.tolerance y.tolerance a.tol b.tol tol_field x.numbers.tol_is y.numbers.tol_is in
     λ k. record { group = group k; lo = lo k; hi = hi k; tol = tol k }
 
+-- a field that is a tolerance is not none
+tolerance_or_none : (field : List ℕ) (low high : ℤ) (tol : ℕ) → size_of field ≡ Some tol → AreWithin low high tol
+    → IsNoTolerance low high field → ⊥
+tolerance_or_none field low high tol is narrow (inl none) = none-some _ (sym none ∙ is)
+tolerance_or_none field low high tol is narrow (inr wide) =
+    wide.2 (subst (AreWithin low high) (some_is tol wide.0 (sym is ∙ wide.1)) narrow)
+
 -- fields of an entry have no fault
 no_fault : (group lo hi tolerance : List ℕ) (numbers : Numbers) (first : Fault)
     → AreNumbers group lo hi tolerance numbers → FieldsHaveFault group lo hi tolerance first → ⊥
@@ -48,19 +55,19 @@ no_fault group lo hi tolerance numbers fault.Lo right x = none-some _ (sym x.1 �
 no_fault group lo hi tolerance numbers fault.Hi right x =
     let same : x.1 ≡ numbers.lo = some_is x.1 numbers.lo (sym x.2 ∙ right.lo_is) in
     none-some _ (sym x.3 ∙ ap (λ low. upper_of low hi) same ∙ right.hi_is)
-no_fault group lo hi tolerance numbers fault.Tolerance right x = none-some _ (sym x.4 ∙ right.tol_is)
-
--- a missing number is none
-none_there : {A : Type 0} (o : Option A) → IsSome o → o ≡ None → ⊥
-none_there None there none = let no = there in cc
-none_there (Some n) there none = cc
+no_fault group lo hi tolerance numbers fault.Tolerance right x =
+    let low : x.1 ≡ numbers.lo = some_is x.1 numbers.lo (sym x.2 ∙ right.lo_is) in
+    let high : x.3 ≡ numbers.hi =
+    some_is x.3 numbers.hi (sym x.4 ∙ ap (λ l. upper_of l hi) low ∙ right.hi_is) in
+    tolerance_or_none tolerance numbers.lo numbers.hi numbers.tol right.tol_is right.narrow
+    (subst (λ h. IsNoTolerance numbers.lo h tolerance) high (subst (λ l. IsNoTolerance l x.3 tolerance) low x.5))
 
 -- an upper end that is missing is not there
-no_upper : (lo hi : List ℕ) (a b : ℤ) → millionths_of lo ≡ Some a → millionths_of lo ≡ Some b
-    → upper_of a hi ≡ None → IsSome (upper_of b hi) → ⊥
-no_upper lo hi a b first second none there =
+no_upper : (lo hi : List ℕ) (a b high : ℤ) → millionths_of lo ≡ Some a → millionths_of lo ≡ Some b
+    → upper_of a hi ≡ None → upper_of b hi ≡ Some high → ⊥
+no_upper lo hi a b high first second none there =
     let same : a ≡ b = some_is a b (sym first ∙ second) in
-    none_there (upper_of b hi) there (sym (ap (λ low. upper_of low hi) same) ∙ none)
+    none-some high (sym none ∙ ap (λ low. upper_of low hi) same ∙ there)
 
 -- fields have one first fault
 same_fault : (group lo hi tolerance : List ℕ) (a b : Fault) → FieldsHaveFault group lo hi tolerance a
@@ -81,12 +88,12 @@ same_fault group lo hi tolerance fault.Hi fault.Group x y = absurd (y x.0)
 same_fault group lo hi tolerance fault.Hi fault.Lo x y = absurd (none-some _ (sym y.1 ∙ x.2))
 same_fault group lo hi tolerance fault.Hi fault.Hi x y = refl
 same_fault group lo hi tolerance fault.Hi fault.Tolerance x y =
-    absurd (no_upper lo hi x.1 y.1 x.2 y.2 x.3 y.3)
+    absurd (no_upper lo hi x.1 y.1 y.3 x.2 y.2 x.3 y.4)
 same_fault group lo hi tolerance fault.Tolerance fault.Fields x y = absurd y
 same_fault group lo hi tolerance fault.Tolerance fault.Group x y = absurd (y x.0)
 same_fault group lo hi tolerance fault.Tolerance fault.Lo x y = absurd (none-some _ (sym y.1 ∙ x.2))
 same_fault group lo hi tolerance fault.Tolerance fault.Hi x y =
-    absurd (no_upper lo hi y.1 x.1 y.2 x.2 y.3 x.3)
+    absurd (no_upper lo hi y.1 x.1 x.3 y.2 x.2 y.3 x.4)
 same_fault group lo hi tolerance fault.Tolerance fault.Tolerance x y = refl
 
 -- the same of fields that are equal

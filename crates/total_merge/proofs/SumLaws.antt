@@ -12,8 +12,8 @@ use Rattle.whole_laws.proofs.Numbers.{size_of_sum}
 use Rattle.portfolio_run.specs.declared.totals.Total.{Total}
 use Rattle.portfolio_run.specs.Stored.{most_bytes}
 use Rattle.portfolio_run.specs.TotalsText.{HasTotalEnds}
-use Rattle.total_merge.specs.Entries.{Entry, IsInRange}
-use Rattle.total_merge.specs.Laws.{Held, IsHeld, IsNarrow, SumsAreHeld, SumsAreNarrow}
+use Rattle.total_merge.specs.Entries.{AreWithin, Entry, IsInRange, IsNarrow}
+use Rattle.total_merge.specs.Laws.{Held, IsHeld, SumsAreHeld, SumsAreNarrow}
 use Rattle.total_merge.specs.Sums.{hi_of, is_of, lo_of, name_of, tol_of, whole_where, HasRoom, HasSums}
 
 -- ---- intervals hold the sums
@@ -82,6 +82,12 @@ narrow_from name (e ∷ entries) lo hi tol narrow all =
 -- where no entry is wider than its tolerance, no group is
 pub sums_are_narrow : SumsAreNarrow
 sums_are_narrow entries all name = narrow_from name entries (pos 0) (pos 0) 0 (omega (arith, ints)) all
+
+-- so no total is
+pub total_is_narrow : (entries : List Entry) (total : Total) → All IsNarrow entries → HasSums entries total
+    → AreWithin total.lo total.hi total.tol
+total_is_narrow entries total all has =
+    rw (has.lo_is, has.hi_is, has.tol_is) (sums_are_narrow entries all (name_of total))
 
 -- ---- order
 

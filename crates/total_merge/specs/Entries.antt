@@ -1,6 +1,6 @@
 -- Entries of tables of totals, in records of a CSV text, this product's own: group, lo, hi and tolerance.
 use Rattle.std.specs.Prelude.{◌≡◌, ◌≢◌, ◌⊎◌, ℕ, ℤ, int_le, List, [], ◌∷◌, length, map, codes}
-use Rattle.std.specs.Prelude.{◌<◌, ◌^◌, ◌≤ℤ◌, unsigned_abs, Option, Some, None, IsSome, if◌then◌else◌}
+use Rattle.std.specs.Prelude.{pos, ◌+ℤ◌, ◌<◌, ◌^◌, ◌≤ℤ◌, unsigned_abs, Option, Some, None, if◌then◌else◌}
 use Rattle.decimal_in.specs.Decimals.{millionths_of, size_of}
 use Rattle.model_specs.specs.Names.{IsGoodName}
 use Rattle.portfolio_run.specs.declared.totals.Total.{Total}
@@ -28,6 +28,15 @@ not_below low (Some high) = if int_le low high then Some high else None
 abbrev pub upper_of : ℤ → List ℕ → Option ℤ
 upper_of low field = not_below low (millionths_of field)
 
+-- ends are no further apart than a tolerance
+abbrev pub AreWithin : (low high : ℤ) (tol : ℕ) → Type 0
+AreWithin low high tol = high ≤ℤ (low +ℤ pos tol)
+
+-- a field is no tolerance of these ends: no decimal without a sign, or one below their distance
+abbrev pub IsNoTolerance : (low high : ℤ) (field : List ℕ) → Type 0
+IsNoTolerance low high field =
+    (size_of field ≡ None) ⊎ ((tol : ℕ) × (size_of field ≡ Some tol) × ¬ (AreWithin low high tol))
+
 -- the ends stand in their order, and each number is of a decimal's size
 pub record AreInRange (numbers : Numbers) : Type 0 where
   pub ordered : numbers.lo ≤ℤ numbers.hi
@@ -41,6 +50,7 @@ pub record AreNumbers (group lo hi tolerance : List ℕ) (numbers : Numbers) : T
   pub lo_is : millionths_of lo ≡ Some numbers.lo
   pub hi_is : upper_of numbers.lo hi ≡ Some numbers.hi
   pub tol_is : size_of tolerance ≡ Some numbers.tol
+  pub narrow : AreWithin numbers.lo numbers.hi numbers.tol
   pub in_range : AreInRange numbers
 
 -- the first of four fields that says nothing of the kind
@@ -51,8 +61,8 @@ FieldsHaveFault group lo hi tolerance fault.Lo = IsGoodName 24 group × (million
 FieldsHaveFault group lo hi tolerance fault.Hi =
     IsGoodName 24 group × (low : ℤ) × (millionths_of lo ≡ Some low) × (upper_of low hi ≡ None)
 FieldsHaveFault group lo hi tolerance fault.Tolerance =
-    IsGoodName 24 group × (low : ℤ) × (millionths_of lo ≡ Some low) × IsSome (upper_of low hi)
-    × (size_of tolerance ≡ None)
+    IsGoodName 24 group × (low : ℤ) × (millionths_of lo ≡ Some low) × (high : ℤ) × (upper_of low hi ≡ Some high)
+    × IsNoTolerance low high tolerance
 
 -- the numbers of an entry
 abbrev pub numbers_of : Entry → Numbers
@@ -94,6 +104,10 @@ entry_of group numbers = record { group = group; lo = numbers.lo; hi = numbers.h
 -- the numbers of an entry are in range
 abbrev pub IsInRange : Entry → Type 0
 IsInRange entry = AreInRange (numbers_of entry)
+
+-- the ends of an entry are no further apart than its tolerance
+abbrev pub IsNarrow : Entry → Type 0
+IsNarrow entry = AreWithin entry.lo entry.hi entry.tol
 
 -- an entry that is kept
 abbrev pub kept_entry : Total → Entry

@@ -9,7 +9,7 @@ use Rattle.portfolio_run.specs.Stored.{Portfolio}
 use Rattle.portfolio_run.specs.Sums.{sum_where}
 use Rattle.portfolio_run.specs.Totals.{greatest_degree, group_value, IsTotal}
 use Rattle.portfolio_run.specs.Values.{IsValued}
-use Rattle.total_merge.specs.Entries.{Entry, kept_entry}
+use Rattle.total_merge.specs.Entries.{Entry, kept_entry, IsNarrow}
 use Rattle.total_merge.specs.Sums.{hi_of, is_of, lo_of, tol_of}
 
 -- an entry, and a number that its interval holds, in minor units
@@ -30,10 +30,6 @@ abbrev pub SumsAreHeld : Type 0
 SumsAreHeld = (held : List Held) → All IsHeld held → (name : List ℕ)
     → LiesBetween (record { lo = lo_of name (map (λ h. h.entry) held); hi = hi_of name (map (λ h. h.entry) held) })
     (sum_where (λ h. is_of name h.entry) (λ h. h.value) held)
-
--- the ends of an entry are no further apart than its tolerance
-abbrev pub IsNarrow : Entry → Type 0
-IsNarrow entry = entry.hi ≤ℤ (entry.lo +ℤ pos entry.tol)
 
 -- where those of each entry are not, those of a group are not
 abbrev pub SumsAreNarrow : Type 0

@@ -3,7 +3,7 @@ ghost use Rattle.std.specs.Prelude.{◌≡◌, ◌≢◌, ◌↔◌, ◌<◌, �
 ghost use Rattle.std.specs.Prelude.{IfErr, IfOk, IfSome, IfNone, IsTrue};
 ghost use Rattle.csv.specs.Records.{fields_of};
 ghost use Rattle.decimal_in.specs.Decimals.{size_of};
-ghost use Rattle.total_merge.specs.Entries.{head, part_of, upper_of, AreNumbers, FieldsHaveFault};
+ghost use Rattle.total_merge.specs.Entries.{head, part_of, upper_of, AreNumbers, AreWithin, FieldsHaveFault};
 
 use csv::ByteRecord;
 use decimal_in::{millionths, unsigned_millionths};
@@ -20,7 +20,7 @@ pub enum Fault {
     Lo,
     /// No decimal, or one below the lower end.
     Hi,
-    /// No decimal without a sign.
+    /// No decimal without a sign, or one below the distance of the ends.
     Tolerance,
 }
 
@@ -85,6 +85,15 @@ fn tolerance(field: &[u8]) -> Option<u128>
     }
 }
 
+// Whether ends are no further apart than a tolerance.
+fn are_within(low: i128, high: i128, tol: u128) -> bool
+    requires low { unsigned_abs low < 10 ^ 24 }
+    requires tol { tol < 10 ^ 24 }
+    ensures { IsTrue result ↔ AreWithin low high tol }
+{
+    high <= low + tol as i128
+}
+
 /// The numbers of an entry of four fields, or their first fault.
 pub(crate) fn numbers_of(
     group: &[u8],
@@ -107,6 +116,9 @@ pub(crate) fn numbers_of(
     let Some(tol) = tolerance(tol_field) else {
         return Err(Fault::Tolerance);
     };
+    if !are_within(lo, hi, tol) {
+        return Err(Fault::Tolerance);
+    }
     Ok(Numbers { lo, hi, tol })
 }
 

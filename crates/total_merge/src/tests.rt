@@ -5,14 +5,14 @@ use std::test::Fail;
 #[test]
 fn tables_are_merged(rt: HostRuntime) -> Result<(), Fail> {
     let alloc = rt.alloc();
-    let plain = "group,lo,hi,tolerance\nmen,1.5,2.000001,0.5\nwomen,-3,-2.999999,0.000002\n\
+    let plain = "group,lo,hi,tolerance\nmen,1.5,2.000001,0.500001\nwomen,-3,-2.999999,0.000002\n\
         group,lo,hi,tolerance\nmen,-0.25,-0.25,0\nold,0,0,0.000001\n";
     let sheet =
-        "\u{feff}group,\"lo\",hi,tolerance\r\nmen,1.5,2.000001,0.5\r\n\r\nwomen,-3,-2.999999,0.000002\r\n\
+        "\u{feff}group,\"lo\",hi,tolerance\r\nmen,1.5,2.000001,0.500001\r\n\r\nwomen,-3,-2.999999,0.000002\r\n\
         group,lo,hi,tolerance\r\nmen,-0.25,-0.25,0\r\n\"old\",0,0,0.000001";
     // by hand
     let wanted = [
-        ("men", 1_250_000, 1_750_001, 500_000),
+        ("men", 1_250_000, 1_750_001, 500_001),
         ("women", -3_000_000, -2_999_999, 2),
         ("old", 0, 0, 1),
     ];
@@ -32,16 +32,19 @@ fn tables_are_merged(rt: HostRuntime) -> Result<(), Fail> {
 
 #[test]
 fn the_largest_decimals_are_added_up(rt: HostRuntime) -> Result<(), Fail> {
-    let row = "x,-999999999999999999.999999,999999999999999999.999999,999999999999999999.999999\n";
-    let text = format!(in rt.alloc(); "group,lo,hi,tolerance\n{row}{row}")?;
+    let low = "x,-999999999999999999.999999,0,999999999999999999.999999\n";
+    let high = "y,0,999999999999999999.999999,999999999999999999.999999\n";
+    let text = format!(in rt.alloc(); "group,lo,hi,tolerance\n{low}{high}{low}{high}")?;
     if text.len() > 1000 {
         return Err("too long".into());
     }
     let totals = merge(rt.alloc(), text.as_bytes())?;
-    let group = totals.groups.get(0).ok_or("no group")?;
-    assert_eq!(rt; group.lo, -1_999_999_999_999_999_999_999_998);
-    assert_eq!(rt; group.hi, 1_999_999_999_999_999_999_999_998);
-    assert_eq!(rt; group.tol, 1_999_999_999_999_999_999_999_998);
+    assert_eq!(rt; totals.groups.len(), 2);
+    let double = 1_999_999_999_999_999_999_999_998;
+    for (group, (lo, hi)) in totals.groups.iter().zip([(-double, 0), (0, double)]) {
+        assert_eq!(rt; (group.lo, group.hi), (lo, hi));
+        assert_eq!(rt; group.tol, 1_999_999_999_999_999_999_999_998);
+    }
     Ok(())
 }
 
@@ -64,6 +67,14 @@ fn wrong_rows_are_told(rt: HostRuntime) -> Result<(), Fail> {
         ("group,lo,hi,tolerance\nx,2,1.999999,-1\n", 1, 4),
         ("group,lo,hi,tolerance\nx,2,,-1\n", 1, 4),
         ("group,lo,hi,tolerance\nx,2,2,-1\n", 1, 5),
+        ("group,lo,hi,tolerance\nx,0,5,0\n", 1, 5),
+        ("group,lo,hi,tolerance\nx,-3,2,4.999999\n", 1, 5),
+        (
+            "group,lo,hi,tolerance\n\
+             x,-999999999999999999.999999,999999999999999999.999999,999999999999999999.999999\n",
+            1,
+            5,
+        ),
         (
             "group,lo,hi,tolerance\nx,1,1,0\ngroup,lo,hi,tolerance\ny,1,1,1e3\n",
             3,
