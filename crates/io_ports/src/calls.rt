@@ -2,7 +2,6 @@
 ghost use Rattle.std.specs.Prelude.{◌≡◌, ◌↔◌, IsTrue, Contains};
 ghost use Rattle.io_ports.specs.Counts.{next_count};
 
-/// How many calls were made, and the numbers of those that fail.
 #[derive(Drop)]
 pub struct Calls {
     made: u64,
@@ -10,7 +9,6 @@ pub struct Calls {
 }
 
 impl Calls {
-    /// No call yet, and the numbers of those that are to fail.
     pub fn new(failing: Vec<u64>) -> Calls
         ensures made { result.made ≡ 0 }
         ensures failing { result.failing.items ≡ failing.items }

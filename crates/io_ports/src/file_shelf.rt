@@ -21,7 +21,6 @@ pub struct FileShelf<'a, R: Files> {
 }
 
 impl<'a, R: Files> FileShelf<'a, R> {
-    /// The files of the system, of which none has been fetched yet.
     pub fn new(rt: &'a R, alloc: Global) -> FileShelf<'a, R>
         ensures told { ⟦<FileShelf<'a, R> as Shelf>⟧.files result ≡ None }
         ensures none_failed { ⟦<FileShelf<'a, R> as Shelf>⟧.failed result ≡ [] }

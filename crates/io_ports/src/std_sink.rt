@@ -16,7 +16,6 @@ pub struct StdSink<W: Write + Drop> {
 }
 
 impl<W: Write + Drop> StdSink<W> {
-    /// A writer that has taken nothing yet.
     pub fn new(out: W) -> StdSink<W>
         ensures told { ⟦<StdSink<W> as Sink>⟧.written result ≡ None }
         ensures no_fault { ⟦<StdSink<W> as Sink>⟧.faults result ≡ 0 }
