@@ -1,14 +1,12 @@
 -- Charged steps as those before a month and those from it on.
-use Rattle.std.proofs.Common.{◌≡◌, ℕ, ◌<◌, ◌≤◌, ℤ, List, [], ◌∷◌, ◌++◌, length, map, get_or}
+use Rattle.std.proofs.Common.{◌≡◌, ℕ, ◌<◌, ◌≤◌, ℤ, List, [], ◌∷◌, ◌++◌, map}
 use Rattle.std.proofs.Common.{append-nil, refl, sym, subst}
 use Rattle.std.specs.Prelude.{All, filter, nat_lt}
 use Rattle.std.proofs.lemmas.Bool.{lt-ltb, le-ltb}
-use Rattle.std.proofs.lemmas.List.{get_or-map, length-map, map-append}
+use Rattle.std.proofs.lemmas.List.{get_or-map, length-map}
 use Rattle.std.proofs.lemmas.List.Elements.{All-cons, All-head, All-nil, All-tail}
 use Rattle.model_specs.specs.Product.{Step}
-use Rattle.model_specs.specs.RecordRules.{IsPayment, step_starts}
-use Rattle.payment_plan.specs.declared.step.StepAmount.{StepAmount}
-use Rattle.payment_plan.specs.Records.{record_of, steps_of}
+use Rattle.model_specs.specs.RecordRules.{IsPayment}
 use Rattle.file_changes.specs.ContinuousAsks.{AreWords}
 use Rattle.file_changes.specs.ContinuousCharges.{charged_steps, less_step, steps_from}
 

@@ -1,6 +1,6 @@
 -- What a loop makes of the members of a list that pass a test, one after the other.
 use Rattle.std.proofs.Common.{◌≡◌, ℕ, zero, suc, ◌+◌, ◌<◌, List, [], ◌∷◌, ◌++◌, length, map, take, get_or, cond}
-use Rattle.std.proofs.Common.{append-nil, arith, refl, ap, sym, ◌∙◌, subst}
+use Rattle.std.proofs.Common.{append-nil, arith, refl, ap, ◌∙◌, subst}
 use Rattle.std.specs.Prelude.{All, Bool, true, false, filter}
 use Rattle.std.proofs.lemmas.List.{map-append, take_more}
 use Rattle.std.proofs.lemmas.List.Elements.{filter-append}
@@ -34,7 +34,8 @@ module _ {D Y : Type 0} (g : D → Y) (test : D → Bool) where
   pub holds_of_member : (P : Y → Type 0) (ds : List D) (i : ℕ) (d : D) → i < length ds → test (get_or ds i d) ≡ true
       → All P (map g (filter test ds)) → P (g (get_or ds i d))
   holds_of_member P [] i d inside is all = absurd (omega (arith, inside))
-  holds_of_member P (x ∷ ds) zero d inside is all = subst (λ xs. All P (map g xs)) (head_passes is) all 0 (g x) (omega arith)
+  holds_of_member P (x ∷ ds) zero d inside is all =
+      subst (λ xs. All P (map g xs)) (head_passes is) all 0 (g x) (omega arith)
     where
       head_passes : test x ≡ true → filter test (x ∷ ds) ≡ x ∷ filter test ds
       head_passes head = rw head refl
@@ -42,7 +43,8 @@ module _ {D Y : Type 0} (g : D → Y) (test : D → Bool) where
       behind (test x) refl (λ rest. holds_of_member P ds i d (omega (arith, inside)) is rest)
     where
       -- the members behind the first one, whether that passes or not
-      behind : (b : Bool) → test x ≡ b → (All P (map g (filter test ds)) → P (g (get_or ds i d))) → P (g (get_or ds i d))
+      behind : (b : Bool) → test x ≡ b → (All P (map g (filter test ds)) → P (g (get_or ds i d)))
+          → P (g (get_or ds i d))
       behind true head rest =
           let all_of : All P (g x ∷ map g (filter test ds)) = rw head at all in
           rest (λ k e below. all_of (suc k) e (omega (arith, below)))

@@ -1,6 +1,6 @@
 -- Sojourn payments of all payers, one after the other.
-use Rattle.std.proofs.Common.{◌≡◌, ℕ, ◌+◌, ◌<◌, List, [], ◌∷◌, ◌++◌, length, map, take, get_or, ap, sym, ◌∙◌, subst}
-use Rattle.std.specs.Prelude.{Bool, true, false, not, filter, ◌==◌, ◌||◌, Vec}
+use Rattle.std.proofs.Common.{◌≡◌, ℕ, ◌+◌, ◌<◌, List, length, take, get_or, ap, sym, ◌∙◌, subst}
+use Rattle.std.specs.Prelude.{Bool, true, false, ◌==◌, ◌||◌, Vec}
 use Rattle.std.specs.declared.alloc.Global.{Global}
 use Rattle.std.proofs.lemmas.List.{get_or-map, length-map}
 use Rattle.std.proofs.lemmas.List.Folds.{list_any_more, list_any_at}
@@ -25,7 +25,8 @@ module _ (paid : List Paid) (state i : ℕ) (d : Paid) (inside : i < length paid
 
   -- the sojourn there is one of the sojourns
   pub sojourn_is_found : is_in (sojourn_of (get_or paid i d)) ≡ true → has_sojourn (sojourns_of paid) state ≡ true
-  sojourn_is_found found = list_any_at is_in (sojourns_of paid) i (sojourn_of d) records_inside (ap is_in record_at ∙ found)
+  sojourn_is_found found =
+      list_any_at is_in (sojourns_of paid) i (sojourn_of d) records_inside (ap is_in record_at ∙ found)
 
   -- and another one is passed
   pub sojourn_is_passed : has_sojourn (take i (sojourns_of paid)) state ≡ false

@@ -1,7 +1,7 @@
 -- A sojourn that is charged, where its state pays the premium and where it does not.
 use Rattle.std.proofs.Common.{◌≡◌, ℕ, zero, suc, ◌+◌, ◌<◌, ℤ, List, [], ◌∷◌, ◌++◌, length, map, take, get_or}
 use Rattle.std.proofs.Common.{arith, refl, ap, sym, ◌∙◌, subst}
-use Rattle.std.specs.Prelude.{All, IsTrue, true, false}
+use Rattle.std.specs.Prelude.{All, true, false}
 use Rattle.std.proofs.lemmas.List.{get_or-map, length-map, map-append}
 use Rattle.std.proofs.lemmas.List.Elements.{All-append}
 use Rattle.model_specs.specs.Product.{Sojourn, PremiumPattern}
@@ -41,7 +41,8 @@ module _ (amount : ℤ) (months : ℕ) (pattern : PremiumPattern) where
         → sojourns_of (made ++ s ∷ []) ≡ map (charged_sojourn amount months pattern) (take (i + 1) (sojourns_of paid))
     sojourn_more made s so_far next =
         one_more_of sojourn_of (charged_sojourn amount months pattern) (sojourns_of paid) i (sojourn_of d) made s so_far
-        (next ∙ ap (charged_sojourn amount months pattern) (sym (sojourn_is paid i d inside))) (inside_sojourns paid i d inside)
+        (next ∙ ap (charged_sojourn amount months pattern) (sym (sojourn_is paid i d inside)))
+        (inside_sojourns paid i d inside)
 
     -- where one is too large, they are not small
     pub sojourn_is_too_large : ¬ AreSmallSteps months

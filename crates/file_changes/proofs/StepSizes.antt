@@ -1,5 +1,5 @@
 -- The test of rule 11, which decides it.
-use Rattle.std.proofs.Common.{◌≡◌, ℕ, suc, ◌+◌, ◌*◌, ◌^◌, ◌<◌, ◌≤◌, length, sym, ◌∙◌}
+use Rattle.std.proofs.Common.{◌≡◌, ℕ, ◌*◌, ◌^◌, ◌<◌, length, sym, ◌∙◌}
 use Rattle.std.specs.Prelude.{◌↔◌, true, false, nat_le, unsigned_abs, slice_index_or, List, pos}
 use Rattle.std.specs.List.{list_all}
 use Rattle.std.proofs.lemmas.Bool.{le-leb, leb-true, false≢true}

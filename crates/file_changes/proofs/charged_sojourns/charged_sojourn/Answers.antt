@@ -1,4 +1,4 @@
-use Rattle.std.proofs.Common.{◌≡◌, ap, sym, subst}
+use Rattle.std.proofs.Common.{ap, sym, subst}
 use Rattle.model_specs.specs.Product.{Sojourn}
 use Rattle.file_changes.specs.ContinuousAsks.{AreSmallSteps}
 use Rattle.file_changes.proofs.charged_sojourns.charged_sojourn.Goals as goal

@@ -1,4 +1,4 @@
-use Rattle.std.proofs.Common.{◌≡◌, ap, sym, ◌∙◌, subst, arith, FitsSigned}
+use Rattle.std.proofs.Common.{sym, subst, arith, FitsSigned}
 use Rattle.std.specs.Int.{w64}
 use Rattle.std.proofs.lemmas.Int.{to_z-of_z}
 use Rattle.std.proofs.lemmas.List.{length-map}
@@ -35,8 +35,9 @@ pub loop-i-preserved : goal.loop-i-preserved
 loop-i-preserved c =
     let next = rw (c.in-Some.is, c.index-sojourns-i.is) at c.in_ok-sojourn.ensures.changed in
     rw c.in_ok-push-in-Some.ensures.items (record {
-      made = sojourn_more _ _ (pattern_rule_of c.args.rule.now) c.args.sojourns.now c.loop-i.i c.index-sojourns-i.result c.loop-i-test.true
-          c.loop-i.charged.items c.in-Some.sojourn c.loop-i.invariant.made next;
+      made = sojourn_more _ _ (pattern_rule_of c.args.rule.now) c.args.sojourns.now c.loop-i.i
+          c.index-sojourns-i.result c.loop-i-test.true c.loop-i.charged.items c.in-Some.sojourn
+          c.loop-i.invariant.made next;
       small = small_sojourn_more c.args.months c.loop-i.charged.items c.in-Some.sojourn c.loop-i.invariant.small
           (rw c.in-Some.is at c.in_ok-sojourn.ensures.small);
     })

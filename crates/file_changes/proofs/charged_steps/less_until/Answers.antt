@@ -1,5 +1,5 @@
-use Rattle.std.proofs.Common.{◌≡◌, ℕ, List, ◌++◌, ap, sym, ◌∙◌, subst, FitsSigned}
-use Rattle.std.specs.Prelude.{All, Vec}
+use Rattle.std.proofs.Common.{List, ◌++◌, ap, sym, ◌∙◌, FitsSigned}
+use Rattle.std.specs.Prelude.{Vec}
 use Rattle.std.specs.Int.{w64}
 use Rattle.std.specs.declared.alloc.Global.{Global}
 use Rattle.std.proofs.lemmas.Int.{to_z-of_z}
@@ -12,7 +12,6 @@ use Rattle.payment_plan.specs.Records.{record_of, steps_of}
 use Rattle.file_changes.specs.ContinuousAsks.{AreWords}
 use Rattle.file_changes.proofs.ChargedWords.{charged_to_the_term, charged_in_two, front_is_too_large, back_is_too_large}
 use Rattle.file_changes.proofs.charged_steps.less_until.Goals as goal
-use Rattle.file_changes.proofs.charged_steps.less_until.Goals.{then-until-months+in_ok-later+in-Some-2+in_ok-extend_from_slice, else-until-months}
 
 pub returns-in_default-clause-too_large : goal.returns-in_default-clause-too_large
 returns-in_default-clause-too_large c =
@@ -30,7 +29,7 @@ returns-clause-changed c =
     let amount : FitsSigned w64 c.args.amount = c.ranges.amount in
     let made = simp to_z-of_z at (rw c.in-Some.is at c.in_ok-charged.ensures.changed) in
     elim c.if-until-months.branch [
-      | then-until-months+in_ok-later+in-Some-2+in_ok-extend_from_slice w ↦
+      | goal.then-until-months+in_ok-later+in-Some-2+in_ok-extend_from_slice w ↦
           ap (λ (v : Vec StepAmount Global). steps_of v.items) w.charged-is
           ∙ ap steps_of w.in_ok-extend_from_slice.ensures.items
           ∙ ap (λ (xs : List StepAmount). steps_of (c.in-Some.charged.items ++ xs)) w.deref.ensures.value
@@ -38,7 +37,7 @@ returns-clause-changed c =
           ∙ ap₂ (λ (xs ys : List Step). xs ++ ys) made (rw w.in-Some-2.is at w.in_ok-later.ensures.changed)
           ∙ sym (charged_in_two c.args.amount c.args.months c.args.until (steps_of c.args.steps.now)
           w.if-until-months.true)
-      | else-until-months w ↦
+      | goal.else-until-months w ↦
           ap (λ (v : Vec StepAmount Global). steps_of v.items) w.charged-is ∙ made
           ∙ sym (charged_to_the_term c.args.amount c.args.months c.args.until (steps_of c.args.steps.now)
           w.if-until-months.false)
@@ -48,10 +47,10 @@ pub returns-clause-words : goal.returns-clause-words
 returns-clause-words c =
     let front = rw c.in-Some.is at c.in_ok-charged.ensures.words in
     elim c.if-until-months.branch [
-      | then-until-months+in_ok-later+in-Some-2+in_ok-extend_from_slice w ↦
+      | goal.then-until-months+in_ok-later+in-Some-2+in_ok-extend_from_slice w ↦
           rw (w.charged-is, w.in_ok-extend_from_slice.ensures.items, w.deref.ensures.value,
           map-append record_of c.in-Some.charged.items w.in-Some-2.later.items)
           (All-append (λ (s : Step). AreWords s.c) (steps_of c.in-Some.charged.items) (steps_of w.in-Some-2.later.items)
           front (rw w.in-Some-2.is at w.in_ok-later.ensures.words))
-      | else-until-months w ↦ rw w.charged-is front
+      | goal.else-until-months w ↦ rw w.charged-is front
     ]

@@ -5,7 +5,6 @@ use Rattle.model_specs.specs.Product.{Product, Lump, PremiumPattern}
 use Rattle.model_specs.specs.RecordRules.{IsWellFormed}
 use Rattle.curve_pieces.specs.BrokenRules.{IsFirstBroken}
 use Rattle.state_graph.specs.StateGraphs.{StateGraph}
-use Rattle.payment_plan.specs.Payments.{Payments}
 use Rattle.payment_plan.specs.Records.{lumps_of, pattern_rule_of}
 use Rattle.file_changes.specs.Asks.{ChargeAsks, AreSmallLumps}
 use Rattle.file_changes.specs.Charges.{completed_lumps, charged_lump, charged_lumps, with_lumps}

@@ -1,9 +1,8 @@
-use Rattle.std.proofs.Common.{◌≡◌, ℕ, List, length, map, ap, sym, ◌∙◌, subst, FitsSigned}
-use Rattle.std.specs.Prelude.{All}
+use Rattle.std.proofs.Common.{◌≡◌, ℕ, List, map, ap, sym, ◌∙◌, subst, FitsSigned}
 use Rattle.std.specs.Int.{w64}
 use Rattle.std.proofs.lemmas.Int.{to_z-of_z}
 use Rattle.model_specs.specs.Product.{Product, Sojourn, PremiumPattern}
-use Rattle.model_specs.specs.RecordRules.{IsBoundedPayment, IsPayment, IsWellFormed}
+use Rattle.model_specs.specs.RecordRules.{IsWellFormed}
 use Rattle.curve_pieces.specs.BrokenRules.{IsFirstBroken}
 use Rattle.payment_plan.specs.Payments.{Payments}
 use Rattle.payment_plan.specs.Records.{pattern_rule_of, sojourns_of}
@@ -74,7 +73,8 @@ returns-then-not-payers_go_on_whole-clause-refused c =
         ≡ charged_sojourns c.args.amount p =
     charged_sojourns_by_parts c.args.amount p c.plan-plan.result.now c.months-months.result rule all
     c.plan-plan.ensures.payments c.months-months.ensures.value c.pattern-rule.ensures.pattern all_is in
-    let made : sojourns_of c.in-Some.sojourns.items ≡ map (charged_sojourn c.args.amount c.months-months.result rule) all =
+    let made : sojourns_of c.in-Some.sojourns.items
+        ≡ map (charged_sojourn c.args.amount c.months-months.result rule) all =
     simp to_z-of_z at (rw c.in-Some.is at c.in_ok-sojourns-2.ensures.changed) in
     let sojourns_are : sojourns_of c.in-Some.sojourns.items ≡ charged_sojourns c.args.amount p = made ∙ charged_is in
     let small : AreSmallSojourns p.months (charged_sojourns c.args.amount p) =
@@ -99,7 +99,8 @@ with_sojourns-requires c =
         ≡ charged_sojourns c.args.amount p =
     charged_sojourns_by_parts c.args.amount p c.plan-plan.result.now c.months-months.result rule all
     c.plan-plan.ensures.payments c.months-months.ensures.value c.pattern-rule.ensures.pattern all_is in
-    let made : sojourns_of c.in-Some.sojourns.items ≡ map (charged_sojourn c.args.amount c.months-months.result rule) all =
+    let made : sojourns_of c.in-Some.sojourns.items
+        ≡ map (charged_sojourn c.args.amount c.months-months.result rule) all =
     simp to_z-of_z at (rw c.in-Some.is at c.in_ok-sojourns-2.ensures.changed) in
     let sojourns_are : sojourns_of c.in-Some.sojourns.items ≡ charged_sojourns c.args.amount p = made ∙ charged_is in
     let small : AreSmallSojourns p.months (charged_sojourns c.args.amount p) =
@@ -125,7 +126,8 @@ returns-clause-ok c =
         ≡ charged_sojourns c.args.amount p =
     charged_sojourns_by_parts c.args.amount p c.plan-plan.result.now c.months-months.result rule all
     c.plan-plan.ensures.payments c.months-months.ensures.value c.pattern-rule.ensures.pattern all_is in
-    let made : sojourns_of c.in-Some.sojourns.items ≡ map (charged_sojourn c.args.amount c.months-months.result rule) all =
+    let made : sojourns_of c.in-Some.sojourns.items
+        ≡ map (charged_sojourn c.args.amount c.months-months.result rule) all =
     simp to_z-of_z at (rw c.in-Some.is at c.in_ok-sojourns-2.ensures.changed) in
     let sojourns_are : sojourns_of c.in-Some.sojourns.items ≡ charged_sojourns c.args.amount p = made ∙ charged_is in
     c.in_ok-with_sojourns.ensures ∙ ap (λ (ss : List Sojourn). with_sojourns ss p) sojourns_are
@@ -143,7 +145,8 @@ returns-clause-keeps c =
         ≡ charged_sojourns c.args.amount p =
     charged_sojourns_by_parts c.args.amount p c.plan-plan.result.now c.months-months.result rule all
     c.plan-plan.ensures.payments c.months-months.ensures.value c.pattern-rule.ensures.pattern all_is in
-    let made : sojourns_of c.in-Some.sojourns.items ≡ map (charged_sojourn c.args.amount c.months-months.result rule) all =
+    let made : sojourns_of c.in-Some.sojourns.items
+        ≡ map (charged_sojourn c.args.amount c.months-months.result rule) all =
     simp to_z-of_z at (rw c.in-Some.is at c.in_ok-sojourns-2.ensures.changed) in
     let sojourns_are : sojourns_of c.in-Some.sojourns.items ≡ charged_sojourns c.args.amount p = made ∙ charged_is in
     let small : AreSmallSojourns p.months (charged_sojourns c.args.amount p) =

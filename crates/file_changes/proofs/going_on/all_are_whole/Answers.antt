@@ -1,10 +1,10 @@
-use Rattle.std.proofs.Common.{◌≡◌, ℕ, ◌<◌, pos, ap, sym, ◌∙◌, refl, subst, arith}
+use Rattle.std.proofs.Common.{sym, subst, arith}
 use Rattle.std.specs.Prelude.{All, IsTrue}
 use Rattle.std.proofs.lemmas.List.{length-map, take_all}
 use Rattle.std.proofs.lemmas.List.Elements.{All-more}
 use Rattle.model_specs.specs.Product.{Sojourn}
 use Rattle.model_specs.specs.RecordRules.{IsPayment, IsBoundedPayment}
-use Rattle.payment_plan.specs.Records.{pattern_rule_of, sojourn_of, sojourns_of}
+use Rattle.payment_plan.specs.Records.{sojourn_of, sojourns_of}
 use Rattle.payment_plan.specs.Tables.{is_payer}
 use Rattle.file_changes.specs.ContinuousAsks.{GoesOnWhole}
 use Rattle.file_changes.proofs.OwnSojourns.{Paid}

@@ -1,4 +1,4 @@
-use Rattle.std.proofs.Common.{◌≡◌, ℤ, pos, ◌-ℤ◌, List, get_or, length, ap, sym, ◌∙◌, rules, FitsSigned, ◌∷◌, []}
+use Rattle.std.proofs.Common.{◌≡◌, ℤ, pos, List, get_or, length, ap, sym, ◌∙◌, rules, FitsSigned, ◌∷◌, []}
 use Rattle.std.specs.Int.{w64}
 use Rattle.std.proofs.lemmas.Int.{to_z-of_z}
 use Rattle.file_changes.proofs.LessSteps.{less_of_four, first_is_word}

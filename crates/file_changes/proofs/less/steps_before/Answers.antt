@@ -1,7 +1,6 @@
-use Rattle.std.proofs.Common.{◌≡◌, List, [], length, get_or, ap, sym, ◌∙◌, arith, FitsSigned}
-use Rattle.std.specs.Prelude.{filter, map, nat_lt, take, Vec}
+use Rattle.std.proofs.Common.{List, [], ap, ◌∙◌, arith, FitsSigned}
+use Rattle.std.specs.Prelude.{filter, map, nat_lt}
 use Rattle.std.specs.Int.{w64}
-use Rattle.std.specs.declared.alloc.Global.{Global}
 use Rattle.std.proofs.lemmas.Bool.{lt-ltb, le-ltb}
 use Rattle.std.proofs.lemmas.Int.{to_z-of_z}
 use Rattle.std.proofs.lemmas.List.{length-map, take_all}
@@ -28,9 +27,10 @@ loop-i-preserved c =
     elim c.if-steps-i.branch [
       | then-steps-i+in-Some+in_ok-push-in-Some w ↦
           rw (w.before-is, w.in_ok-push-in-Some.ensures.items) (record {
-            made = less_more _ _ c.args.steps.now c.loop-i.i none c.loop-i-test.true c.loop-i.before.items w.in-Some.step
-                (lt-ltb _ _ w.if-steps-i.true) c.loop-i.invariant.made w.in-Some.ensures.changed;
-            words = step_words_more c.loop-i.before.items w.in-Some.step c.loop-i.invariant.words w.in-Some.ensures.words;
+            made = less_more _ _ c.args.steps.now c.loop-i.i none c.loop-i-test.true c.loop-i.before.items
+                w.in-Some.step (lt-ltb _ _ w.if-steps-i.true) c.loop-i.invariant.made w.in-Some.ensures.changed;
+            words = step_words_more c.loop-i.before.items w.in-Some.step c.loop-i.invariant.words
+                w.in-Some.ensures.words;
           })
       | else-steps-i w ↦
           rw w.before-is (record {

@@ -1,9 +1,8 @@
-use Rattle.std.proofs.Common.{◌≡◌, ℕ, ◌<◌, ◌≤◌, List, [], length, get_or, below_more, pos, true, Bool, ap, sym, ◌∙◌, subst, arith}
+use Rattle.std.proofs.Common.{◌≡◌, ℕ, ◌<◌, List, [], length, get_or, below_more, pos, true, sym, ◌∙◌, subst, arith}
 use Rattle.std.specs.Prelude.{slice_index_or}
 use Rattle.std.proofs.lemmas.List.{get_or-map, length-map}
 use mathlib.Core.Path.{ap₂}
 use Rattle.model_specs.specs.Payments.{constant_step}
-use Rattle.model_specs.specs.Product.{Step}
 use Rattle.payment_plan.specs.declared.step.StepAmount.{StepAmount}
 use Rattle.payment_plan.specs.Records.{record_of, steps_of}
 use Rattle.product_file.specs.PaymentRules.{is_bounded_step}

@@ -1,4 +1,4 @@
-use Rattle.std.proofs.Common.{◌≡◌, ℕ, ◌<◌, true, [], pos}
+use Rattle.std.proofs.Common.{◌≡◌, ℕ, ◌<◌, true, pos}
 use Rattle.std.specs.Prelude.{slice_index_or}
 use Rattle.model_specs.specs.RecordRules.{months_of}
 use Rattle.model_specs.specs.Payments.{constant_step}
