@@ -1,21 +1,30 @@
 -- A continuous premium that is charged: an amount a year is taken off the sojourn payments of the payers, up to a
 -- month. This product's own.
-use Rattle.std.specs.Prelude.{ℕ, ◌-◌, ◌^◌, ℤ, pos, ◌-ℤ◌, ◌==◌, nat_lt, not, Bool, if◌then◌else◌}
+use Rattle.std.specs.Prelude.{ℕ, ◌-◌, ◌*◌, ℤ, pos, ◌+ℤ◌, ◌-ℤ◌, ◌*ℤ◌, ◌==◌, nat_lt, not, Bool, if◌then◌else◌}
 use Rattle.std.specs.Prelude.{List, [], ◌∷◌, ◌++◌, map, filter}
 use Rattle.std.specs.List.{list_any}
 use Rattle.frac_laws.specs.Rounding.{floor_of}
-use Rattle.named_numbers.specs.Numbers.{months_of_year}
-use Rattle.whole_laws.specs.Whole.{list_of}
-use Rattle.model_specs.specs.MonthNumbers.{month_coefficient}
+use Rattle.model_specs.specs.MonthNumbers.{coefficient_at}
 use Rattle.model_specs.specs.Product.{Product, Step, Sojourn, PremiumPattern}
 use Rattle.model_specs.specs.Payments.{constant_step, step_at}
 use Rattle.payment_plan.specs.Tables.{is_payer}
 
--- four coefficients of the years since a month, as coefficients of the years since some months later, each rounded
--- down to a whole number
+-- the numerators of the first three of four coefficients of the years since a month, as coefficients of the years since
+-- some months later: over 12^3, 12^2 and 12
+abbrev pub numerators_later : (months : ℕ) → List ℤ → List ℤ
+numerators_later months c =
+    let square = months * months in
+    (pos 1728 *ℤ coefficient_at c 0 +ℤ pos (144 * months) *ℤ coefficient_at c 1 +ℤ pos (12 * square) *ℤ coefficient_at c 2
+        +ℤ pos (square * months) *ℤ coefficient_at c 3)
+    ∷ (pos 144 *ℤ coefficient_at c 1 +ℤ pos (24 * months) *ℤ coefficient_at c 2 +ℤ pos (3 * square) *ℤ coefficient_at c 3)
+    ∷ (pos 12 *ℤ coefficient_at c 2 +ℤ pos (3 * months) *ℤ coefficient_at c 3) ∷ []
+
+-- the four coefficients some months later, each rounded down to a whole number
 abbrev pub coefficients_later : (months : ℕ) → List ℤ → List ℤ
 coefficients_later months c =
-    list_of 4 (λ i. floor_of (month_coefficient c months i) (pos (months_of_year ^ (5 - i))))
+    let numerators = numerators_later months c in
+    floor_of (coefficient_at numerators 0) (pos 1728) ∷ floor_of (coefficient_at numerators 1) (pos 144)
+    ∷ floor_of (coefficient_at numerators 2) (pos 12) ∷ coefficient_at c 3 ∷ []
 
 -- a step that starts at a month and pays what a step pays that is older
 abbrev pub continued_step : (month : ℕ) → Step → Step

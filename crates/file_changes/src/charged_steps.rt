@@ -2,7 +2,7 @@
 
 ghost use Rattle.std.specs.Prelude.{◌≡◌, ◌≤◌, All, IfOk, IfSome, IfNone};
 ghost use Rattle.named_numbers.specs.Numbers.{most_months};
-ghost use Rattle.model_specs.specs.RecordRules.{IsPayment, IsBoundedPayment};
+ghost use Rattle.model_specs.specs.RecordRules.{IsPayment};
 ghost use Rattle.payment_plan.specs.Records.{steps_of};
 ghost use Rattle.file_changes.specs.ContinuousAsks.{AreSmallSteps, AreWords};
 ghost use Rattle.file_changes.specs.ContinuousCharges as continuous;
@@ -22,7 +22,6 @@ fn less_until(
     amount: i64,
 ) -> Result<Option<Vec<StepAmount>>, AllocError>
     requires good { IsPayment months (steps_of steps.now) }
-    requires bounded { IsBoundedPayment months (steps_of steps.now) }
     requires term { months ≤ most_months }
     ensures changed { IfOk result (λ found. IfSome found (λ charged. steps_of charged.items
         ≡ continuous.charged_steps amount months until (steps_of steps.now))) }
@@ -52,7 +51,6 @@ pub(crate) fn charged_steps(
     amount: i64,
 ) -> Result<Option<Vec<StepAmount>>, AllocError>
     requires good { IsPayment months (steps_of steps.now) }
-    requires bounded { IsBoundedPayment months (steps_of steps.now) }
     requires term { months ≤ most_months }
     requires some { 1 ≤ until }
     requires until { until ≤ months }

@@ -2,7 +2,7 @@
 
 ghost use Rattle.std.specs.Prelude.{◌<◌, ◌≤◌, All, IsTrue, IsFalse};
 ghost use Rattle.named_numbers.specs.Numbers.{most_months};
-ghost use Rattle.model_specs.specs.RecordRules.{IsPayment, IsBoundedPayment};
+ghost use Rattle.model_specs.specs.RecordRules.{IsPayment};
 ghost use Rattle.payment_plan.specs.Records.{sojourn_of, sojourns_of};
 ghost use Rattle.payment_plan.specs.Tables.{is_payer};
 ghost use Rattle.file_changes.specs.ContinuousAsks.{GoesOnWhole, PayersGoOnWhole};
@@ -15,7 +15,6 @@ use product_model::Product;
 // Whether a sojourn goes on in whole coefficients where the premium ends, if its state pays the premium.
 fn is_whole(paid: &(usize, Vec<StepAmount>), rule: &PatternRule, months: u32) -> bool
     requires good { IsPayment months (sojourn_of paid.now).steps }
-    requires bounded { IsBoundedPayment months (sojourn_of paid.now).steps }
     requires within { rule.now.until < months }
     requires term { months ≤ most_months }
     ensures whole { IsTrue result → IsTrue (is_payer rule.now.payers.items (sojourn_of paid.now).state)
@@ -29,7 +28,6 @@ fn is_whole(paid: &(usize, Vec<StepAmount>), rule: &PatternRule, months: u32) ->
 // Whether all payers do.
 fn all_are_whole(sojourns: &[(usize, Vec<StepAmount>)], rule: &PatternRule, months: u32) -> bool
     requires good { All (λ s. IsPayment months s.steps) (sojourns_of sojourns.now) }
-    requires bounded { All (λ s. IsBoundedPayment months s.steps) (sojourns_of sojourns.now) }
     requires within { rule.now.until < months }
     requires term { months ≤ most_months }
     ensures whole { IsTrue result → All (λ s. IsTrue (is_payer rule.now.payers.items s.state)

@@ -3,9 +3,6 @@ use Rattle.model_specs.specs.Product.{Sojourn}
 use Rattle.file_changes.specs.ContinuousAsks.{AreSmallSteps}
 use Rattle.file_changes.proofs.charged_sojourns.charged_sojourn.Goals as goal
 
-pub charged_steps-requires-clause-bounded : goal.charged_steps-requires-clause-bounded
-charged_steps-requires-clause-bounded c = rw c.deref.ensures.value c.requires.bounded
-
 pub returns-in_ok-sojourn-clause-small : goal.returns-in_ok-sojourn-clause-small
 returns-in_ok-sojourn-clause-small c =
     let words = rw c.deref-else-pays.ensures.value at c.have_words.ensures in

@@ -3,7 +3,7 @@ use Rattle.std.specs.Prelude.{All, IsTrue}
 use Rattle.std.proofs.lemmas.List.{length-map, take_all}
 use Rattle.std.proofs.lemmas.List.Elements.{All-more}
 use Rattle.model_specs.specs.Product.{Sojourn}
-use Rattle.model_specs.specs.RecordRules.{IsPayment, IsBoundedPayment}
+use Rattle.model_specs.specs.RecordRules.{IsPayment}
 use Rattle.payment_plan.specs.Records.{sojourn_of, sojourns_of}
 use Rattle.payment_plan.specs.Tables.{is_payer}
 use Rattle.file_changes.specs.ContinuousAsks.{GoesOnWhole}
@@ -16,13 +16,6 @@ is_whole-requires-clause-good c =
     subst (λ (s : Paid). IsPayment c.args.months (sojourn_of s).steps) (sym c.index-sojourns-i.is)
     (holds_of_sojourn c.args.sojourns.now c.loop-i.i
     c.index-sojourns-i.result c.loop-i-test.true (λ (s : Sojourn). IsPayment c.args.months s.steps) c.requires.good)
-
-pub is_whole-requires-clause-bounded : goal.is_whole-requires-clause-bounded
-is_whole-requires-clause-bounded c =
-    subst (λ (s : Paid). IsBoundedPayment c.args.months (sojourn_of s).steps) (sym c.index-sojourns-i.is)
-    (holds_of_sojourn c.args.sojourns.now c.loop-i.i
-    c.index-sojourns-i.result c.loop-i-test.true (λ (s : Sojourn). IsBoundedPayment c.args.months s.steps)
-    c.requires.bounded)
 
 pub returns-then-not-is_whole-clause-not_whole : goal.returns-then-not-is_whole-clause-not_whole
 returns-then-not-is_whole-clause-not_whole c =
