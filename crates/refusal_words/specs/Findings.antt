@@ -1,8 +1,9 @@
 -- What is found at the place of a broken rule, and what is wanted there, where that can be told simply.
-use Rattle.std.specs.Prelude.{ℕ, ◌-◌, nat_lt, ℤ, pos, negsuc, ◌+ℤ◌, ◌-ℤ◌, int_lt, List, [], ◌++◌, length}
+use Rattle.std.specs.Prelude.{ℕ, ◌-◌, nat_lt, ℤ, pos, neg_ℤ, ◌+ℤ◌, ◌-ℤ◌, int_lt, List, [], ◌++◌, length}
 use Rattle.std.specs.Prelude.{Bool, codes, decimal, if◌then◌else◌}
 use Rattle.std.specs.Fmt.{signed_decimal}
 use Rattle.toml.specs.Data.{Data, Members}
+use Rattle.named_numbers.specs.Numbers.{most_months, most_denominator, most_amount, most_lump, most_every}
 use Rattle.product_file.specs.Members.{whole_of, text_of, item_at, members_of}
 use Rattle.product_file.specs.HeadRules.{is_format_1, is_from_to, most_states_of, state_names}
 use Rattle.product_file.specs.CurveRules.{is_piece, most_coefficients, start_of}
@@ -19,10 +20,12 @@ use Rattle.refusal_words.specs.declared.owners.Owner.{Owner}
 use Rattle.refusal_words.specs.declared.owners.Owner.TheVariants as owner
 use Rattle.refusal_words.specs.declared.places.Place.{Place}
 use Rattle.refusal_words.specs.declared.places.Place.TheVariants as place
+use Rattle.refusal_words.specs.declared.places.Thing.{Thing}
 use Rattle.refusal_words.specs.declared.places.Thing.TheVariants as thing
 use Rattle.refusal_words.specs.declared.rules.Rule.{Rule}
 use Rattle.refusal_words.specs.declared.rules.Rule.TheVariants as rule
 use Rattle.refusal_words.specs.FileNames.{is_shown, owner_of, pieces_of, steps_of}
+use Rattle.refusal_words.specs.KeyTexts.{key_lines}
 
 -- a number that is not from one to another
 unfoldable pub outside : Number → (found low high : ℤ) → Finding
@@ -37,13 +40,13 @@ key_finding number key t low high = outside number (whole_of key t) low high
 unfoldable pub count_finding : Members → Finding
 count_finding tree = finding.States (length (state_names tree)) (most_states_of tree)
 
--- the month from which a later piece or step holds: above the one before, and below the term
+-- the month from which a later piece or step holds: above the one before, and below the term, if any such month is left
 unfoldable pub later_finding : (months before start : ℤ) → Finding
 later_finding months before start =
     if int_lt before months
     then (if int_lt (before +ℤ pos 1) months then outside number.From start (before +ℤ pos 1) (months -ℤ pos 1)
-    else finding.Wants want.EarlierStart)
-    else finding.Wants want.EarlierStart
+    else finding.NoFurther start)
+    else finding.NoFurther start
 
 -- the month from which a piece or a step holds
 unfoldable pub start_finding : (months : ℤ) → List Data → ℕ → Finding
@@ -84,26 +87,22 @@ list_finding tree (owner.Transition k) step = step_finding tree (steps_of tree (
 list_finding tree (owner.Sojourn s) step =
     if is_good_sojourn tree s then step_finding tree (steps_of tree (owner.Sojourn s)) step else finding.Nothing
 
--- the largest amount
-abbrev pub largest : ℤ
-largest = pos 1000000000000
-
--- the least amount
-abbrev pub least : ℤ
-least = negsuc 999999999999
+-- the number at a key of a table, which may have at most a size
+abbrev pub size_finding : Number → (key : List ℕ) → Members → (most : ℕ) → Finding
+size_finding number key t most = key_finding number key t (neg_ℤ (pos most)) (pos most)
 
 -- the amount of a step of format 1
 unfoldable pub amount_finding : Members → Owner → ℕ → Finding
 amount_finding tree own step =
     if is_format_1 tree
-    then key_finding number.Amount (codes "amount") (members_of (item_at (steps_of tree own) step)) least largest
+    then size_finding number.Amount (codes "amount") (members_of (item_at (steps_of tree own) step)) most_amount
     else finding.Nothing
 
 -- the month and the amount of a lump
 unfoldable pub lump_finding : (months : ℤ) → Members → Finding
 lump_finding months t =
     if is_from_to (pos 0) months (whole_of (codes "month") t)
-    then key_finding number.Amount (codes "amount") t least largest
+    then size_finding number.Amount (codes "amount") t most_lump
     else finding.Outside number.Month (whole_of (codes "month") t) (pos 0) months
 
 -- a lump by its place
@@ -113,12 +112,18 @@ lump_finding_at tree k =
     then lump_finding (whole_of (codes "months") tree) (members_of (item_at (lump_items tree) k))
     else finding.Nothing
 
+-- a key of the top table: of one that no product has nothing more is told
+abbrev pub kind_finding : Thing → Finding
+kind_finding thing.Another = finding.Nothing
+kind_finding key = finding.Key key
+
 -- what the file has at the place of a rule, where that can be told
 abbrev pub finding_of : Members → Rule → Place → Finding
+finding_of tree rule.Keys (place.Thing key) = kind_finding key
 finding_of tree rule.Format at = key_finding number.Format (codes "format") tree (pos 1) (pos 2)
 finding_of tree rule.Names (place.Thing thing.States) = count_finding tree
-finding_of tree rule.Term at = key_finding number.Months (codes "months") tree (pos 1) (pos 1200)
-finding_of tree rule.Denominator at = key_finding number.Den (codes "den") tree (pos 1) largest
+finding_of tree rule.Term at = key_finding number.Months (codes "months") tree (pos 1) (pos most_months)
+finding_of tree rule.Denominator at = key_finding number.Den (codes "den") tree (pos 1) (pos most_denominator)
 finding_of tree rule.Start at = finding.Start
 finding_of tree rule.Pieces (place.Piece curve piece) = piece_finding tree curve piece
 finding_of tree rule.Steps (place.Step list step) = list_finding tree (owner_of tree list) step
@@ -127,7 +132,7 @@ finding_of tree rule.Lumps (place.Lump k) = lump_finding_at tree k
 finding_of tree rule.Pattern (place.Thing thing.Until) =
     key_finding number.Until (codes "until") (premium_of tree) (pos 1) (whole_of (codes "months") tree)
 finding_of tree rule.Pattern (place.Thing thing.Every) =
-    key_finding number.Every (codes "every") (premium_of tree) (pos 0) (pos 1200)
+    key_finding number.Every (codes "every") (premium_of tree) (pos 0) (pos most_every)
 finding_of tree own at = finding.Nothing
 
 -- the word of a number
@@ -148,7 +153,6 @@ want_text want.SomeStep = codes "found: no step\nwanted: at least one step\n"
 want_text want.FourNumbers = codes "wanted: from, a whole number, and c, 1 to 4 whole numbers\n"
 want_text want.SixNumbers = codes "wanted: from, a whole number, and c, 1 to 6 whole numbers\n"
 want_text want.Amount = codes "wanted: from and amount, both whole numbers\n"
-want_text want.EarlierStart = codes "wanted: an earlier month before this one, since none is left below months\n"
 
 -- a number with its word
 unfoldable pub equals : Number → ℤ → List ℕ
@@ -170,6 +174,11 @@ wanted_line number low high = codes "wanted: " ++ range number low high ++ codes
 -- both lines of a number
 unfoldable pub number_lines : Number → (found low high : ℤ) → List ℕ
 number_lines number found low high = found_line number found ++ wanted_line number low high
+
+-- the lines of a start behind which no month is left
+unfoldable pub no_further_lines : (start : ℤ) → List ℕ
+no_further_lines start = found_line number.From start
+    ++ codes "wanted: no further piece or step here, since the one before starts in the last month or later\n"
 
 -- the lines of the number of states
 unfoldable pub count_lines : (found most : ℕ) → List ℕ
@@ -197,5 +206,7 @@ abbrev pub finding_lines : Members → Finding → List ℕ
 finding_lines tree finding.Nothing = []
 finding_lines tree (finding.Outside number found low high) = number_lines number found low high
 finding_lines tree (finding.States found most) = count_lines found most
+finding_lines tree (finding.NoFurther start) = no_further_lines start
+finding_lines tree (finding.Key key) = key_lines tree key
 finding_lines tree finding.Start = start_lines tree
 finding_lines tree (finding.Wants wanted) = want_text wanted

@@ -1,5 +1,6 @@
 pub mod FileNames
 pub mod Findings
+pub mod KeyTexts
 pub mod Laws
 pub mod PartTexts
 pub mod PlaceTexts

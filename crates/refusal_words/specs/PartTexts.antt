@@ -57,8 +57,13 @@ length_text = codes "rule: a file has at most 1048576 bytes\n"
 
 -- the line of a premium that cannot be told
 abbrev pub premium_text : List ℕ
-premium_text = codes "rule: the interval of the value of the premium pattern begins at 1/32 or above\n"
+premium_text =
+    codes "rule: the file has a premium table whose pattern is worth at least 1/32 at issue, by the lower end of its "
+    ++ codes "interval\n"
 
--- the line of words without a reading
+-- the lines of words without a reading
 abbrev pub words_text : List ℕ
-words_text = codes "rule: the words are one of the commands that help prints, with its files and numbers\n"
+words_text =
+    codes "rule: the words are a command of help, with its files and numbers; csv and json stand before commands "
+    ++ codes "with rows, explain before all but help and version\nwanted: EVERY is 1 to 1200, RATE is like 0.01 or "
+    ++ codes "-0.01, FACTOR and EPS are like 0.01\n"

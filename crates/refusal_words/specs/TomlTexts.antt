@@ -1,6 +1,8 @@
 -- The lines under a file that is no TOML text.
-use Rattle.std.specs.Prelude.{◌≡◌, ◌⊎◌, ℕ, ◌+◌, ◌≤◌, ◌==◌, nat_lt, nat_le, ◌||◌, Bool, List, ◌++◌, length, take}
+use Rattle.std.specs.Prelude.{◌≡◌, ℕ, ◌+◌, ◌≤◌, ◌==◌, nat_lt, nat_le, ◌||◌, Bool, List, ◌++◌, length, take}
 use Rattle.std.specs.Prelude.{count_by, fold, codes, decimal, if◌then◌else◌}
+use Rattle.toml.specs.Data.{Members}
+use Rattle.product_file.specs.Verdict.{ReadsAs, IsNotToml}
 use Rattle.refusal_words.specs.RuleTexts.{rule_line, at_line}
 
 -- the byte ends a line
@@ -36,7 +38,11 @@ abbrev pub toml_text : (file : List ℕ) → (offset : ℕ) → List ℕ
 toml_text file offset =
     rule_line toml_demand ++ at_line (text_place (line_after (take offset file)) (column_after (take offset file)))
 
--- the lines of a file: those of a fault within it, or the first of them where it has none
-abbrev pub IsTomlText : (file text : List ℕ) → Type 0
-IsTomlText file text =
-    ((offset : ℕ) × (offset ≤ length file) × (text ≡ toml_text file offset)) ⊎ (text ≡ rule_line toml_demand)
+-- lines of a fault at some place within the file
+abbrev pub IsFaultText : (file text : List ℕ) → Type 0
+IsFaultText file text = (offset : ℕ) × (offset ≤ length file) × (text ≡ toml_text file offset)
+
+-- the lines of a file: no TOML text has a place of its fault, and one that is TOML text has the first line alone
+pub record IsTomlText (file text : List ℕ) : Type 0 where
+  pub not_toml : IsNotToml file → IsFaultText file text
+  pub toml : (tree : Members) → ReadsAs file tree → text ≡ rule_line toml_demand

@@ -26,7 +26,7 @@ use toml::{Table, Value};
 fn push_thing(out: &mut Vec<u8>, tree: &Table, thing: Thing) -> Result<(), AllocError>
     ensures { OnOk result (out.new.items ≡ out.old.items ++ thing_words (table_view tree.now) thing) }
 {
-    out.extend_from_slice(thing.word())?;
+    out.extend_from_slice(thing.word().as_bytes())?;
     match thing {
         Thing::Another => push_named(out, other_key(tree)),
         _ => Ok(()),

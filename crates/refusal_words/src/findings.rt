@@ -3,11 +3,14 @@
 ghost use Rattle.std.specs.Prelude.{◌≡◌, ◌++◌, OnOk};
 ghost use Rattle.toml.specs.View.{table_view};
 ghost use Rattle.refusal_words.specs.Findings as spec;
-ghost use Rattle.refusal_words.specs.Findings.{count_lines, finding_lines, found_line, number_lines, number_word};
+ghost use Rattle.refusal_words.specs.Findings.{count_lines, finding_lines, found_line, no_further_lines, number_lines};
+ghost use Rattle.refusal_words.specs.Findings.{number_word};
 ghost use Rattle.refusal_words.specs.Findings.{range, start_found, start_line, start_lines, start_words, want_text};
 ghost use Rattle.refusal_words.specs.Findings.{wanted_line};
 
+use crate::key_texts::push_key_lines;
 use crate::names::is_shown;
+use crate::places::Thing;
 use decimal_out::push_whole;
 use file_tree::text_of;
 use std::alloc::AllocError;
@@ -37,7 +40,6 @@ pub enum Want {
     SixNumbers,
     /// A step of format 1.
     Amount,
-    EarlierStart,
 }
 
 /// What is found at a place, where that can be told simply.
@@ -56,6 +58,10 @@ pub enum Finding {
         found: u64,
         most: u64,
     },
+    /// The month of a piece or a step behind which none is left, as the one before starts in the last month or later.
+    NoFurther(i64),
+    /// A key of the top table that is missing or has a value of a wrong type.
+    Key(Thing),
     /// The start is no state.
     Start,
     Wants(Want),
@@ -92,8 +98,6 @@ impl Want {
             Want::FourNumbers => b"wanted: from, a whole number, and c, 1 to 4 whole numbers\n",
             Want::SixNumbers => b"wanted: from, a whole number, and c, 1 to 6 whole numbers\n",
             Want::Amount => b"wanted: from and amount, both whole numbers\n",
-            Want::EarlierStart =>
-                b"wanted: an earlier month before this one, since none is left below months\n",
         }
     }
 }
@@ -154,6 +158,17 @@ fn push_number_lines(
 {
     push_found(out, number, found)?;
     push_wanted(out, number, low, high)
+}
+
+// Appends the lines of a start behind which no month is left.
+#[tactic(auto, unfolding(crate::specs::Findings::no_further_lines))]
+fn push_no_further_lines(out: &mut Vec<u8>, start: i64) -> Result<(), AllocError>
+    ensures { OnOk result (out.new.items ≡ out.old.items ++ no_further_lines start) }
+{
+    push_found(out, Number::From, start)?;
+    out.extend_from_slice(
+        b"wanted: no further piece or step here, since the one before starts in the last month or later\n",
+    )
 }
 
 // Appends the lines of the number of states.
@@ -220,6 +235,8 @@ pub fn push_finding(out: &mut Vec<u8>, tree: &Table, finding: Finding) -> Result
             high,
         } => push_number_lines(out, number, found, low, high),
         Finding::States { found, most } => push_count_lines(out, found, most),
+        Finding::NoFurther(start) => push_no_further_lines(out, start),
+        Finding::Key(key) => push_key_lines(out, tree, key),
         Finding::Start => push_start_lines(out, tree),
         Finding::Wants(want) => out.extend_from_slice(want.text()),
     }

@@ -25,10 +25,20 @@ use file_tree::{
     constant_step_keys, curve, is_format_1, is_from_to, is_table_of, lump_keys, lumps, piece_keys,
     premium_whole, sojourns, states, sum_of, transitions, whole_of, whole_within,
 };
+use named_numbers::{MOST_AMOUNT, MOST_DENOMINATOR, MOST_EVERY, MOST_LUMP, MOST_MONTHS};
 use toml::{Table, Value};
 
-// The largest amount, in minor units, and the largest denominator.
-const LARGEST: i64 = 1_000_000_000_000;
+// The longest term, in months.
+const LONGEST_TERM: i64 = MOST_MONTHS as i64;
+
+// The longest time between two dates of a premium pattern, in months.
+const LONGEST_WAIT: i64 = MOST_EVERY as i64;
+
+// The largest amount of a step, in minor units.
+const LARGEST_AMOUNT: i64 = MOST_AMOUNT as i64;
+
+// The largest lump, in minor units.
+const LARGEST_LUMP: i64 = MOST_LUMP as i64;
 
 // A number that is not from one to another.
 #[tactic(auto, unfolding(crate::specs::Findings::outside))]
@@ -81,10 +91,10 @@ fn later_finding(months: i64, before: i64, start: i64) -> Finding
         if before + 1 < months {
             outside(Number::From, start, before + 1, months - 1)
         } else {
-            Finding::Wants(Want::EarlierStart)
+            Finding::NoFurther(start)
         }
     } else {
-        Finding::Wants(Want::EarlierStart)
+        Finding::NoFurther(start)
     }
 }
 
@@ -294,8 +304,8 @@ fn amount_finding(tree: &Table, owner: Owner, step: u32) -> Finding
         outside(
             Number::Amount,
             whole_at(steps_of(tree, owner), step, "amount"),
-            -LARGEST,
-            LARGEST,
+            -LARGEST_AMOUNT,
+            LARGEST_AMOUNT,
         )
     } else {
         Finding::Nothing
@@ -312,8 +322,8 @@ fn lump_finding(months: i64, lump: &Value) -> Finding
         outside(
             Number::Amount,
             whole_within(lump, "amount"),
-            -LARGEST,
-            LARGEST,
+            -LARGEST_LUMP,
+            LARGEST_LUMP,
         )
     } else {
         Finding::Outside {
@@ -343,6 +353,16 @@ fn lump_finding_at(tree: &Table, k: u32) -> Finding
     }
 }
 
+// A key of the top table: of one that no product has nothing more is told.
+fn kind_finding(key: Thing) -> Finding
+    ensures { result ≡ spec.kind_finding key }
+{
+    match key {
+        Thing::Another => Finding::Nothing,
+        _ => Finding::Key(key),
+    }
+}
+
 // A number at a key of the top table.
 fn top_finding(number: Number, key: &str, tree: &Table, low: i64, high: i64) -> Finding
     ensures { result ≡ key_finding number key.now (table_view tree.now) low high }
@@ -362,10 +382,11 @@ pub fn finding_of(tree: &Table, rule: Rule, place: Place) -> Finding
     ensures { result ≡ spec.finding_of (table_view tree.now) rule place }
 {
     match (rule, place) {
+        (Rule::Keys, Place::Thing(key)) => kind_finding(key),
         (Rule::Format, _) => top_finding(Number::Format, "format", tree, 1, 2),
         (Rule::Names, Place::Thing(Thing::States)) => count_finding(tree),
-        (Rule::Term, _) => top_finding(Number::Months, "months", tree, 1, 1200),
-        (Rule::Denominator, _) => top_finding(Number::Den, "den", tree, 1, LARGEST),
+        (Rule::Term, _) => top_finding(Number::Months, "months", tree, 1, LONGEST_TERM),
+        (Rule::Denominator, _) => top_finding(Number::Den, "den", tree, 1, MOST_DENOMINATOR),
         (Rule::Start, _) => Finding::Start,
         (Rule::Pieces, Place::Piece { curve, piece }) => piece_finding(tree, curve, piece),
         (Rule::Steps, Place::Step { list, step }) => list_finding(tree, owner_of(tree, list), step),
@@ -383,7 +404,7 @@ pub fn finding_of(tree: &Table, rule: Rule, place: Place) -> Finding
             "every",
             tree,
             0,
-            1200,
+            LONGEST_WAIT,
         ),
         _ => Finding::Nothing,
     }

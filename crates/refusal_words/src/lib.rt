@@ -4,6 +4,7 @@
 mod file_places;
 mod findings;
 mod found;
+mod key_texts;
 mod laws;
 mod names;
 mod other_keys;

@@ -141,16 +141,15 @@ pub fn length_lines(alloc: Global) -> Result<Vec<u8>, AllocError>
 pub fn premium_lines(alloc: Global) -> Result<Vec<u8>, AllocError>
     ensures { IfOk result (λ text. text.items ≡ premium_text) }
 {
-    b"rule: the interval of the value of the premium pattern begins at 1/32 or above\n".to_vec(
-        alloc,
-    )
+    b"rule: the file has a premium table whose pattern is worth at least 1/32 at issue, by the lower end of its \
+        interval\n".to_vec(alloc)
 }
 
-/// The line of words without a reading.
+/// The lines of words without a reading.
 pub fn words_lines(alloc: Global) -> Result<Vec<u8>, AllocError>
     ensures { IfOk result (λ text. text.items ≡ words_text) }
 {
-    b"rule: the words are one of the commands that help prints, with its files and numbers\n".to_vec(
-        alloc,
-    )
+    b"rule: the words are a command of help, with its files and numbers; csv and json stand before commands with rows, \
+        explain before all but help and version\nwanted: EVERY is 1 to 1200, RATE is like 0.01 or -0.01, FACTOR and \
+        EPS are like 0.01\n".to_vec(alloc)
 }

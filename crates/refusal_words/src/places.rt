@@ -70,25 +70,25 @@ impl Thing {
 
     /// Its words.
     #[tactic(auto, unfolding(crate::specs::Places::word_of))]
-    pub fn word(self) -> &'static [u8]
+    pub fn word(self) -> &'static str
         ensures { result.now ≡ word_of self }
     {
         match self {
-            Thing::Format => b"format",
-            Thing::Name => b"name",
-            Thing::Months => b"months",
-            Thing::Den => b"den",
-            Thing::Start => b"start",
-            Thing::States => b"states",
-            Thing::Interest => b"interest",
-            Thing::Transition => b"transition",
-            Thing::Sojourn => b"sojourn",
-            Thing::Lump => b"lump",
-            Thing::Premium => b"premium",
-            Thing::Another => b"another key",
-            Thing::Until => b"premium, until",
-            Thing::Every => b"premium, every",
-            Thing::Product => b"the product",
+            Thing::Format => "format",
+            Thing::Name => "name",
+            Thing::Months => "months",
+            Thing::Den => "den",
+            Thing::Start => "start",
+            Thing::States => "states",
+            Thing::Interest => "interest",
+            Thing::Transition => "transition",
+            Thing::Sojourn => "sojourn",
+            Thing::Lump => "lump",
+            Thing::Premium => "premium",
+            Thing::Another => "another key",
+            Thing::Until => "premium, until",
+            Thing::Every => "premium, every",
+            Thing::Product => "the product",
         }
     }
 }

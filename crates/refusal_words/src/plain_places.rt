@@ -34,7 +34,7 @@ pub fn push_plain_place(out: &mut Vec<u8>, place: Place) -> Result<(), AllocErro
     ensures { OnOk result (out.new.items ≡ out.old.items ++ plain_place place) }
 {
     match place {
-        Place::Thing(thing) => out.extend_from_slice(thing.word()),
+        Place::Thing(thing) => out.extend_from_slice(thing.word().as_bytes()),
         Place::State(i) => push_numbered(out, b"state ", i),
         Place::Transition(k) => push_transition(out, k),
         Place::Piece { curve, piece } => {

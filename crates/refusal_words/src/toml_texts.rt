@@ -100,8 +100,9 @@ fn demand_line(alloc: Global) -> Result<Vec<u8>, AllocError>
     Ok(text)
 }
 
-/// The lines of a file that is no TOML text, with the line and the column at which the reader stopped, both from 1. A
-/// file that is one has the first line only.
+/// The lines of a file that is no TOML text, with the line and the column, both from 1, at which the reader says that
+/// its fault begins: of that place the reader itself promises only that it lies within the file. A file that is TOML
+/// text has the first line alone.
 pub fn toml_lines(alloc: Global, file: &[u8]) -> Result<Vec<u8>, AllocError>
     ensures { IfOk result (λ text. IsTomlText file.now text.items) }
 {

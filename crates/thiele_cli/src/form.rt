@@ -27,9 +27,11 @@ fn rest(words: &[String]) -> &[String]
     }
 }
 
-// The line that refuses words, and the one that explains it.
+// The line that refuses words, and those that explain it.
 const EXPLAINED_WORDS: &[u8] = b"refused words\n\
-    rule: the words are one of the commands that help prints, with its files and numbers\n";
+    rule: the words are a command of help, with its files and numbers; csv and json stand before commands with rows, \
+    explain before all but help and version\nwanted: EVERY is 1 to 1200, RATE is like 0.01 or -0.01, FACTOR and EPS \
+    are like 0.01\n";
 
 /// What is written of words without a reading. Takes no memory.
 pub fn no_reading_text(words: &[String]) -> &'static [u8]
