@@ -10,7 +10,7 @@ abbrev pub claim_demands : List (List ℕ)
 claim_demands = codes "the first record is month,state,reserve" ∷ codes "a claim has three fields"
     ∷ codes "month is 0, or 1 to 4 digits without a leading zero, and at most the term"
     ∷ codes "state is the name of a state of the product"
-    ∷ codes "reserve is 1 to 18 digits, perhaps a point and 1 to 6 digits, and perhaps - before them" ∷ []
+    ∷ codes "reserve is 1 to 18 digits, no needless zero, perhaps a point and 1 to 6 digits, perhaps - before them" ∷ []
 
 -- what each part of a holding demands
 abbrev pub holding_demands : List (List ℕ)
@@ -25,9 +25,9 @@ holding_demands = codes "the first record is file,group,month,state,count" ∷ c
 abbrev pub total_demands : List (List ℕ)
 total_demands = codes "the first record is group,lo,hi,tolerance" ∷ codes "an entry has four fields"
     ∷ codes "group is 1 to 24 letters, digits, '.', '_' and '-'"
-    ∷ codes "lo is 1 to 18 digits, perhaps a point and 1 to 6 digits, and perhaps - before them"
+    ∷ codes "lo is 1 to 18 digits, no needless zero, perhaps a point and 1 to 6 digits, perhaps - before them"
     ∷ codes "hi is such a number too, and not below lo"
-    ∷ codes "tolerance is such a number without a sign" ∷ []
+    ∷ codes "tolerance is such a number without a sign, and at least hi less lo" ∷ []
 
 -- the field of each part of a claim
 abbrev pub claim_fields : List (List ℕ)

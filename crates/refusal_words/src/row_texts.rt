@@ -30,7 +30,7 @@ fn claim_demand(part: u8) -> &'static [u8]
         2 => b"month is 0, or 1 to 4 digits without a leading zero, and at most the term",
         3 => b"state is the name of a state of the product",
         4 =>
-            b"reserve is 1 to 18 digits, perhaps a point and 1 to 6 digits, and perhaps - before them",
+            b"reserve is 1 to 18 digits, no needless zero, perhaps a point and 1 to 6 digits, perhaps - before them",
         _ => b"",
     }
 }
@@ -60,9 +60,10 @@ fn total_demand(part: u8) -> &'static [u8]
         0 => b"the first record is group,lo,hi,tolerance",
         1 => b"an entry has four fields",
         2 => b"group is 1 to 24 letters, digits, '.', '_' and '-'",
-        3 => b"lo is 1 to 18 digits, perhaps a point and 1 to 6 digits, and perhaps - before them",
+        3 =>
+            b"lo is 1 to 18 digits, no needless zero, perhaps a point and 1 to 6 digits, perhaps - before them",
         4 => b"hi is such a number too, and not below lo",
-        5 => b"tolerance is such a number without a sign",
+        5 => b"tolerance is such a number without a sign, and at least hi less lo",
         _ => b"",
     }
 }

@@ -292,7 +292,7 @@ fn parts_and_rows_say_what_they_demand(rt: HostRuntime) -> Result<(), Fail> {
         ),
         (
             row(CsvTable::Totals, 12, 5)?,
-            "rule: tolerance is such a number without a sign\nat: record 12, tolerance\n",
+            "rule: tolerance is such a number without a sign, and at least hi less lo\nat: record 12, tolerance\n",
         ),
         (
             length_lines(alloc)?,
