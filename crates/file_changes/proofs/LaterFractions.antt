@@ -64,8 +64,24 @@ term_is w p m d e c some positive same =
     weight_out : (m p c i : Fraction) → (m *ℚ i) *ℚ (p *ℚ c) ≡ m *ℚ ((p *ℚ i) *ℚ c)
     weight_out m p c i = ring (m ∷ p ∷ c ∷ i ∷ []) (hlevel terms) refl
 
+-- the sums of such terms
+first_sum : (x xx xxx a b c d : Fraction) → xx ≡ x *ℚ x → xxx ≡ x *ℚ x *ℚ x
+    → whole (pos 1) *ℚ (whole (pos 1) *ℚ a) +ℚ whole (pos 1) *ℚ (x *ℚ b) +ℚ whole (pos 1) *ℚ (xx *ℚ c)
+    +ℚ whole (pos 1) *ℚ (xxx *ℚ d)
+    ≡ a +ℚ x *ℚ b +ℚ (x *ℚ x) *ℚ c +ℚ (x *ℚ x *ℚ x) *ℚ d
+first_sum x xx xxx a b c d square cube = rw (square, cube) (ring (x ∷ a ∷ b ∷ c ∷ d ∷ []) (hlevel terms) refl)
+
+second_sum : (x xx b c d : Fraction) → xx ≡ x *ℚ x
+    → whole (pos 1) *ℚ (whole (pos 1) *ℚ b) +ℚ whole (pos 2) *ℚ (x *ℚ c) +ℚ whole (pos 3) *ℚ (xx *ℚ d)
+    ≡ b +ℚ whole (pos 2) *ℚ (x *ℚ c) +ℚ whole (pos 3) *ℚ ((x *ℚ x) *ℚ d)
+second_sum x xx b c d square = rw square (ring (x ∷ b ∷ c ∷ d ∷ []) (hlevel terms) refl)
+
+third_sum : (x c d : Fraction) → whole (pos 1) *ℚ (whole (pos 1) *ℚ c) +ℚ whole (pos 3) *ℚ (x *ℚ d)
+    ≡ c +ℚ whole (pos 3) *ℚ (x *ℚ d)
+third_sum x c d = ring (x ∷ c ∷ d ∷ []) (hlevel terms) refl
+
 module _ (months : ℕ) (a b c d : ℤ) where
-  x : Fraction
+  abbrev x : Fraction
   x = over (pos months) 12
 
   square_is : over (pos (months * months)) 144 ≡ x *ℚ x
@@ -79,6 +95,7 @@ module _ (months : ℕ) (a b c d : ℤ) where
       +ℤ pos (months * months * months) *ℤ d) 1728
       ≡ whole a +ℚ x *ℚ whole b +ℚ (x *ℚ x) *ℚ whole c +ℚ (x *ℚ x *ℚ x) *ℚ whole d
   first_is =
+      let one : months * months * months ≡ 1 * (months * months * months) = omega arith in
       over_add _ (pos (months * months * months) *ℤ d) 1728
       ∙ ap₂ (λ y z. y +ℚ z)
       (over_add _ (pos (12 * (months * months)) *ℤ c) 1728 ∙ ap₂ (λ y z. y +ℚ z)
@@ -86,19 +103,9 @@ module _ (months : ℕ) (a b c d : ℤ) where
       (term_is 1728 1 1 1728 1 a (omega arith) (omega arith) refl)
       (term_is 144 months 1 1728 12 b (omega arith) (omega arith) refl))
       (term_is 12 (months * months) 1 1728 144 c (omega arith) (omega arith) refl))
-      (ap (λ n. over (pos n *ℤ d) 1728) one_cube
+      (ap (λ n. over (pos n *ℤ d) 1728) one
       ∙ term_is 1 (months * months * months) 1 1728 1728 d (omega arith) (omega arith) refl)
-      ∙ as_powers _ _ square_is cube_is
-    where
-      one_cube : months * months * months ≡ 1 * (months * months * months)
-      one_cube = omega arith
-
-      as_powers : (xx xxx : Fraction) → xx ≡ x *ℚ x → xxx ≡ x *ℚ x *ℚ x
-          → whole (pos 1) *ℚ (over (pos 1) 1 *ℚ whole a) +ℚ whole (pos 1) *ℚ (x *ℚ whole b)
-          +ℚ whole (pos 1) *ℚ (xx *ℚ whole c) +ℚ whole (pos 1) *ℚ (xxx *ℚ whole d)
-          ≡ whole a +ℚ x *ℚ whole b +ℚ (x *ℚ x) *ℚ whole c +ℚ (x *ℚ x *ℚ x) *ℚ whole d
-      as_powers xx xxx square cube =
-          rw (square, cube) (ring (x ∷ whole a ∷ whole b ∷ whole c ∷ whole d ∷ []) (hlevel terms) refl)
+      ∙ first_sum x _ _ (whole a) (whole b) (whole c) (whole d) square_is cube_is
 
   second_is : over (pos 144 *ℤ b +ℤ pos (24 * months) *ℤ c +ℤ pos (3 * (months * months)) *ℤ d) 144
       ≡ whole b +ℚ whole (pos 2) *ℚ (x *ℚ whole c) +ℚ whole (pos 3) *ℚ ((x *ℚ x) *ℚ whole d)
@@ -108,16 +115,15 @@ module _ (months : ℕ) (a b c d : ℤ) where
       (over_add (pos 144 *ℤ b) (pos (24 * months) *ℤ c) 144 ∙ ap₂ (λ y z. y +ℚ z)
       (term_is 144 1 1 144 1 b (omega arith) (omega arith) refl)
       (term_is 24 months 2 144 12 c (omega arith) (omega arith) refl))
-      (term_is 3 (months * months) 3 144 144 d (omega arith) (omega arith) refl
-      ∙ ap (λ y. whole (pos 3) *ℚ (y *ℚ whole d)) square_is)
-      ∙ ring (x ∷ whole b ∷ whole c ∷ whole d ∷ []) (hlevel terms) refl
+      (term_is 3 (months * months) 3 144 144 d (omega arith) (omega arith) refl)
+      ∙ second_sum x _ (whole b) (whole c) (whole d) square_is
 
   third_is : over (pos 12 *ℤ c +ℤ pos (3 * months) *ℤ d) 12 ≡ whole c +ℚ whole (pos 3) *ℚ (x *ℚ whole d)
   third_is =
       over_add (pos 12 *ℤ c) (pos (3 * months) *ℤ d) 12
       ∙ ap₂ (λ y z. y +ℚ z) (term_is 12 1 1 12 1 c (omega arith) (omega arith) refl)
       (term_is 3 months 3 12 12 d (omega arith) (omega arith) refl)
-      ∙ ring (x ∷ whole c ∷ whole d ∷ []) (hlevel terms) refl
+      ∙ third_sum x (whole c) (whole d)
 
   four_are : shifted x (whole a ∷ whole b ∷ whole c ∷ whole d ∷ [])
       ≡ over (get_or (numerators_later months (a ∷ b ∷ c ∷ d ∷ [])) 0 (pos 0)) 1728

@@ -49,15 +49,48 @@ const YEARLY: &str = "format = 1\n\
     ]\n\
     premium = { payers = [\"well\"], until = 24, every = 12 }\n";
 
-/// A premium that is paid continuously.
-const CONTINUOUS: &str = "format = 1\n\
-    name = \"continuous\"\n\
+/// A premium that is paid continuously for six months, while well or ill: a payment while well that varies, and none
+/// while ill.
+const HALF_YEAR: &str = "format = 2\n\
+    name = \"half_year\"\n\
+    months = 12\n\
+    den = 1\n\
+    start = \"well\"\n\
+    states = [\"well\", \"ill\", \"dead\"]\n\
+    interest = [{ from = 0, c = [0] }]\n\
+    premium = { payers = [\"ill\", \"well\"], until = 6, every = 0 }\n\
+    [[sojourn]]\n\
+    state = \"dead\"\n\
+    steps = [{ from = 0, c = [5] }]\n\
+    [[sojourn]]\n\
+    state = \"well\"\n\
+    steps = [{ from = 0, c = [1200, 120] }, { from = 9, c = [7] }]\n";
+
+/// One that is paid up to the term, beside a constant payment and one that varies.
+const TO_THE_TERM: &str = "format = 2\n\
+    name = \"to_the_term\"\n\
     months = 12\n\
     den = 1\n\
     start = \"well\"\n\
     states = [\"well\"]\n\
     interest = [{ from = 0, c = [0] }]\n\
-    premium = { payers = [\"well\"], until = 12, every = 0 }\n";
+    premium = { payers = [\"well\"], until = 12, every = 0 }\n\
+    [[sojourn]]\n\
+    state = \"well\"\n\
+    steps = [{ from = 0, c = [24] }, { from = 6, c = [0, 1] }]\n";
+
+/// One that ends where 0 + 1 t is 1/2.
+const HALVES: &str = "format = 2\n\
+    name = \"halves\"\n\
+    months = 12\n\
+    den = 1\n\
+    start = \"well\"\n\
+    states = [\"well\"]\n\
+    interest = [{ from = 0, c = [0] }]\n\
+    premium = { payers = [\"well\"], until = 6, every = 0 }\n\
+    [[sojourn]]\n\
+    state = \"well\"\n\
+    steps = [{ from = 0, c = [0, 1] }]\n";
 
 // The first two coefficients of each piece: those of the interest, and then those of the transitions.
 fn numbers(alloc: Global, product: &Product) -> Result<Vec<(i64, i64)>, Fail> {
@@ -141,6 +174,44 @@ fn a_premium_is_taken_off_the_lumps(rt: HostRuntime) -> Result<(), Fail> {
     Ok(())
 }
 
+// The states, starts and first two coefficients of the steps of the sojourns.
+fn sojourn_numbers(
+    alloc: Global,
+    product: &Product,
+) -> Result<Vec<(usize, u32, i64, i64)>, Fail> {
+    let mut numbers = Vec::new(alloc);
+    for (state, steps) in product.plan().sojourns() {
+        for step in steps {
+            numbers.push((*state, step.from, step.c[0], step.c[1]))?;
+        }
+    }
+    Ok(numbers)
+}
+
+#[test]
+fn a_premium_is_taken_off_the_sojourns(rt: HostRuntime) -> Result<(), Fail> {
+    let half = [
+        (2, 0, 5, 0),
+        (0, 0, 1191, 120),
+        (0, 6, 1260, 120),
+        (0, 9, 7, 0),
+        (1, 0, -9, 0),
+        (1, 6, 0, 0),
+    ];
+    let changed = charged(rt.alloc(), HALF_YEAR, 9)?;
+    assert_eq!(rt;
+        sojourn_numbers(rt.alloc(), &changed)?.as_slice(),
+        half.as_slice()
+    );
+    let whole = [(0, 0, 15, 0), (0, 6, -9, 1)];
+    let changed = charged(rt.alloc(), TO_THE_TERM, 9)?;
+    assert_eq!(rt;
+        sojourn_numbers(rt.alloc(), &changed)?.as_slice(),
+        whole.as_slice()
+    );
+    Ok(())
+}
+
 // The part by which a change is refused, and 0 where it is not.
 fn part_of(changed: Result<Product, ChangeError>) -> u8 {
     match changed {
@@ -189,7 +260,10 @@ fn parts_of_the_others(rt: HostRuntime) -> Result<(), Fail> {
         (ILLNESS, 1, 4),
         (YEARLY, 1_000_000_000_000, 0),
         (YEARLY, 1_000_000_000_001, 5),
-        (CONTINUOUS, 1, 6),
+        (HALVES, 1, 6),
+        (HALVES, 1_000_000_000_001, 5),
+        (TO_THE_TERM, -1_000_000_000_000, 5),
+        (TO_THE_TERM, 1_000_000_000_000, 0),
     ] {
         assert_eq!(rt; charge_part(rt.alloc(), file, amount)?, part);
     }
