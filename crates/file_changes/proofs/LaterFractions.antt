@@ -12,7 +12,7 @@ use Rattle.frac_laws.proofs.Quotients.{cross_of_over_equal, whole_mul}
 use Rattle.frac_laws.proofs.RoundingLaws.{quotient_and_remainder}
 use Rattle.whole_laws.proofs.ShortLists.{four_are_all}
 use Rattle.file_changes.specs.ContinuousAsks.{AreWholeLater}
-use Rattle.file_changes.specs.ContinuousCharges.{numerators_later, coefficients_later}
+use Rattle.file_changes.specs.ContinuousCharges.{numerators_later}
 
 -- ---- whole quotients
 

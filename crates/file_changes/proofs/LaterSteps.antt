@@ -1,7 +1,7 @@
 -- The steps after a month, one step after the other.
-use Rattle.std.proofs.Common.{◌≡◌, ℕ, ◌+◌, ◌<◌, List, [], ◌∷◌, ◌++◌, length, map, take, get_or, cond, ap, sym, ◌∙◌, subst}
+use Rattle.std.proofs.Common.{◌≡◌, ℕ, ◌+◌, ◌<◌, List, [], ◌∷◌, ◌++◌, length, take, get_or, cond, ap, sym, ◌∙◌, subst}
 use Rattle.std.proofs.Common.{append-nil}
-use Rattle.std.specs.Prelude.{true, false, All, filter, nat_lt}
+use Rattle.std.specs.Prelude.{true, false, All, nat_lt}
 use Rattle.std.proofs.lemmas.List.{get_or-map, length-map}
 use Rattle.std.proofs.lemmas.List.Elements.{All-append, filter_more}
 use Rattle.whole_laws.proofs.Members.{All-one}

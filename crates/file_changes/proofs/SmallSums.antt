@@ -1,5 +1,5 @@
 -- Sums of a few terms have at most 128 bits.
-use Rattle.std.proofs.Common.{ℕ, ◌^◌, ◌<◌, ℤ, ◌+ℤ◌, unsigned_abs, FitsSigned, arith}
+use Rattle.std.proofs.Common.{◌^◌, ◌<◌, ℤ, ◌+ℤ◌, unsigned_abs, FitsSigned, arith}
 use Rattle.std.specs.Int.{w128}
 use Rattle.std.proofs.lemmas.Int.{fits_signed_from_abs}
 use Rattle.whole_laws.proofs.Numbers.{size_of_sum}

@@ -31,7 +31,10 @@ fn numerators_later(c: &[i64; 4], months: u32) -> [i128; 3]
 {
     let square = months * months;
     [
-        term(1728, c[0]) + term(144 * months, c[1]) + term(12 * square, c[2]) + term(square * months, c[3]),
+        term(1728, c[0])
+            + term(144 * months, c[1])
+            + term(12 * square, c[2])
+            + term(square * months, c[3]),
         term(144, c[1]) + term(24 * months, c[2]) + term(3 * square, c[3]),
         term(12, c[2]) + term(3 * months, c[3]),
     ]

@@ -175,10 +175,7 @@ fn a_premium_is_taken_off_the_lumps(rt: HostRuntime) -> Result<(), Fail> {
 }
 
 // The states, starts and first two coefficients of the steps of the sojourns.
-fn sojourn_numbers(
-    alloc: Global,
-    product: &Product,
-) -> Result<Vec<(usize, u32, i64, i64)>, Fail> {
+fn sojourn_numbers(alloc: Global, product: &Product) -> Result<Vec<(usize, u32, i64, i64)>, Fail> {
     let mut numbers = Vec::new(alloc);
     for (state, steps) in product.plan().sojourns() {
         for step in steps {

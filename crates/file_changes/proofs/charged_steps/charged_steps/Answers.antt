@@ -17,7 +17,7 @@ pub is_small_payment-requires-clause-within : goal.is_small_payment-requires-cla
 is_small_payment-requires-clause-within c =
     let amount : FitsSigned w64 c.args.amount = c.ranges.amount in
     let made : steps_of c.in-Some.charged.items
-        ≡ charged_steps c.args.amount c.args.months c.args.until (steps_of c.args.steps.now) =
+    ≡ charged_steps c.args.amount c.args.months c.args.until (steps_of c.args.steps.now) =
     simp to_z-of_z at (rw c.in-Some.is at c.in_ok-charged.ensures.changed) in
     rw (c.deref.ensures.value, made)
     (payment_within c.args.months _ (charged_is_payment c.args.amount c.args.months c.args.until
@@ -35,7 +35,7 @@ pub returns-else-is_small_payment-clause-too_large : goal.returns-else-is_small_
 returns-else-is_small_payment-clause-too_large c =
     let amount : FitsSigned w64 c.args.amount = c.ranges.amount in
     let made : steps_of c.in-Some.charged.items
-        ≡ charged_steps c.args.amount c.args.months c.args.until (steps_of c.args.steps.now) =
+    ≡ charged_steps c.args.amount c.args.months c.args.until (steps_of c.args.steps.now) =
     simp to_z-of_z at (rw c.in-Some.is at c.in_ok-charged.ensures.changed) in
     let wide = rw (c.if-is_small_payment.false, c.deref.ensures.value, made) at c.is_small_payment.ensures.too_large in
     λ small. wide refl small.bounded

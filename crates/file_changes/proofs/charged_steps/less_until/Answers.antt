@@ -48,8 +48,12 @@ returns-clause-words c =
     let front = rw c.in-Some.is at c.in_ok-charged.ensures.words in
     elim c.if-until-months.branch [
       | goal.then-until-months+in_ok-later+in-Some-2+in_ok-extend_from_slice w ↦
-          rw (w.charged-is, w.in_ok-extend_from_slice.ensures.items, w.deref.ensures.value,
-          map-append record_of c.in-Some.charged.items w.in-Some-2.later.items)
+          rw (
+            w.charged-is,
+            w.in_ok-extend_from_slice.ensures.items,
+            w.deref.ensures.value,
+            map-append record_of c.in-Some.charged.items w.in-Some-2.later.items,
+          )
           (All-append (λ (s : Step). AreWords s.c) (steps_of c.in-Some.charged.items) (steps_of w.in-Some-2.later.items)
           front (rw w.in-Some-2.is at w.in_ok-later.ensures.words))
       | goal.else-until-months w ↦ rw w.charged-is front

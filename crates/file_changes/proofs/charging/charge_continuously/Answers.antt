@@ -47,11 +47,11 @@ returns-in_default-clause-refused c =
     let all_is : all ≡ completed_sojourns c.plan-plan.result.now.sojourns rule =
     ap sojourns_of c.deref.ensures.value ∙ c.in_ok-sojourns.ensures in
     let charged_is : map (charged_sojourn c.args.amount c.months-months.result rule) all
-        ≡ charged_sojourns c.args.amount p =
+    ≡ charged_sojourns c.args.amount p =
     charged_sojourns_by_parts c.args.amount p c.plan-plan.result.now c.months-months.result rule all
     c.plan-plan.ensures.payments c.months-months.ensures.value c.pattern-rule.ensures.pattern all_is in
     let wide : ¬ AreSmallSojourns c.months-months.result
-        (map (charged_sojourn c.args.amount c.months-months.result rule) all) =
+    (map (charged_sojourn c.args.amount c.months-months.result rule) all) =
     simp to_z-of_z at (rw c.in_default.is at c.in_ok-sojourns-2.ensures.too_large) in
     λ broken same.
     let five : record { part = 5 } ≡ broken = cc in
@@ -70,11 +70,11 @@ returns-then-not-payers_go_on_whole-clause-refused c =
     let all_is : all ≡ completed_sojourns c.plan-plan.result.now.sojourns rule =
     ap sojourns_of c.deref.ensures.value ∙ c.in_ok-sojourns.ensures in
     let charged_is : map (charged_sojourn c.args.amount c.months-months.result rule) all
-        ≡ charged_sojourns c.args.amount p =
+    ≡ charged_sojourns c.args.amount p =
     charged_sojourns_by_parts c.args.amount p c.plan-plan.result.now c.months-months.result rule all
     c.plan-plan.ensures.payments c.months-months.ensures.value c.pattern-rule.ensures.pattern all_is in
     let made : sojourns_of c.in-Some.sojourns.items
-        ≡ map (charged_sojourn c.args.amount c.months-months.result rule) all =
+    ≡ map (charged_sojourn c.args.amount c.months-months.result rule) all =
     simp to_z-of_z at (rw c.in-Some.is at c.in_ok-sojourns-2.ensures.changed) in
     let sojourns_are : sojourns_of c.in-Some.sojourns.items ≡ charged_sojourns c.args.amount p = made ∙ charged_is in
     let small : AreSmallSojourns p.months (charged_sojourns c.args.amount p) =
@@ -96,11 +96,11 @@ with_sojourns-requires c =
     let all_is : all ≡ completed_sojourns c.plan-plan.result.now.sojourns rule =
     ap sojourns_of c.deref.ensures.value ∙ c.in_ok-sojourns.ensures in
     let charged_is : map (charged_sojourn c.args.amount c.months-months.result rule) all
-        ≡ charged_sojourns c.args.amount p =
+    ≡ charged_sojourns c.args.amount p =
     charged_sojourns_by_parts c.args.amount p c.plan-plan.result.now c.months-months.result rule all
     c.plan-plan.ensures.payments c.months-months.ensures.value c.pattern-rule.ensures.pattern all_is in
     let made : sojourns_of c.in-Some.sojourns.items
-        ≡ map (charged_sojourn c.args.amount c.months-months.result rule) all =
+    ≡ map (charged_sojourn c.args.amount c.months-months.result rule) all =
     simp to_z-of_z at (rw c.in-Some.is at c.in_ok-sojourns-2.ensures.changed) in
     let sojourns_are : sojourns_of c.in-Some.sojourns.items ≡ charged_sojourns c.args.amount p = made ∙ charged_is in
     let small : AreSmallSojourns p.months (charged_sojourns c.args.amount p) =
@@ -123,11 +123,11 @@ returns-clause-ok c =
     let all_is : all ≡ completed_sojourns c.plan-plan.result.now.sojourns rule =
     ap sojourns_of c.deref.ensures.value ∙ c.in_ok-sojourns.ensures in
     let charged_is : map (charged_sojourn c.args.amount c.months-months.result rule) all
-        ≡ charged_sojourns c.args.amount p =
+    ≡ charged_sojourns c.args.amount p =
     charged_sojourns_by_parts c.args.amount p c.plan-plan.result.now c.months-months.result rule all
     c.plan-plan.ensures.payments c.months-months.ensures.value c.pattern-rule.ensures.pattern all_is in
     let made : sojourns_of c.in-Some.sojourns.items
-        ≡ map (charged_sojourn c.args.amount c.months-months.result rule) all =
+    ≡ map (charged_sojourn c.args.amount c.months-months.result rule) all =
     simp to_z-of_z at (rw c.in-Some.is at c.in_ok-sojourns-2.ensures.changed) in
     let sojourns_are : sojourns_of c.in-Some.sojourns.items ≡ charged_sojourns c.args.amount p = made ∙ charged_is in
     c.in_ok-with_sojourns.ensures ∙ ap (λ (ss : List Sojourn). with_sojourns ss p) sojourns_are
@@ -142,11 +142,11 @@ returns-clause-keeps c =
     let all_is : all ≡ completed_sojourns c.plan-plan.result.now.sojourns rule =
     ap sojourns_of c.deref.ensures.value ∙ c.in_ok-sojourns.ensures in
     let charged_is : map (charged_sojourn c.args.amount c.months-months.result rule) all
-        ≡ charged_sojourns c.args.amount p =
+    ≡ charged_sojourns c.args.amount p =
     charged_sojourns_by_parts c.args.amount p c.plan-plan.result.now c.months-months.result rule all
     c.plan-plan.ensures.payments c.months-months.ensures.value c.pattern-rule.ensures.pattern all_is in
     let made : sojourns_of c.in-Some.sojourns.items
-        ≡ map (charged_sojourn c.args.amount c.months-months.result rule) all =
+    ≡ map (charged_sojourn c.args.amount c.months-months.result rule) all =
     simp to_z-of_z at (rw c.in-Some.is at c.in_ok-sojourns-2.ensures.changed) in
     let sojourns_are : sojourns_of c.in-Some.sojourns.items ≡ charged_sojourns c.args.amount p = made ∙ charged_is in
     let small : AreSmallSojourns p.months (charged_sojourns c.args.amount p) =

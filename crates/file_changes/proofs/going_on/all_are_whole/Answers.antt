@@ -20,7 +20,7 @@ is_whole-requires-clause-good c =
 pub returns-then-not-is_whole-clause-not_whole : goal.returns-then-not-is_whole-clause-not_whole
 returns-then-not-is_whole-clause-not_whole c =
     let P : Sojourn → Type 0 = λ s. IsTrue (is_payer c.args.rule.now.payers.items s.state)
-        → GoesOnWhole c.args.rule.now.until s.steps in
+    → GoesOnWhole c.args.rule.now.until s.steps in
     λ refused all.
     c.is_whole.ensures.not_whole c.if-not-is_whole.true
     (subst (λ (s : Paid). P (sojourn_of s)) (sym c.index-sojourns-i.is)
@@ -30,7 +30,7 @@ returns-then-not-is_whole-clause-not_whole c =
 pub loop-i-preserved : goal.loop-i-preserved
 loop-i-preserved c =
     let P : Sojourn → Type 0 = λ s. IsTrue (is_payer c.args.rule.now.payers.items s.state)
-        → GoesOnWhole c.args.rule.now.until s.steps in
+    → GoesOnWhole c.args.rule.now.until s.steps in
     All-more P (sojourns_of c.args.sojourns.now) c.loop-i.i (sojourn_of c.index-sojourns-i.result)
     (inside_sojourns c.args.sojourns.now c.loop-i.i c.index-sojourns-i.result c.loop-i-test.true) c.loop-i.invariant
     (subst P (sym (sojourn_is c.args.sojourns.now c.loop-i.i c.index-sojourns-i.result c.loop-i-test.true))
@@ -40,6 +40,6 @@ loop-i-preserved c =
 pub returns-clause-whole : goal.returns-clause-whole
 returns-clause-whole c =
     let P : Sojourn → Type 0 = λ s. IsTrue (is_payer c.args.rule.now.payers.items s.state)
-        → GoesOnWhole c.args.rule.now.until s.steps in
+    → GoesOnWhole c.args.rule.now.until s.steps in
     λ passed. subst (All P) (take_all c.loop-i.i (sojourns_of c.args.sojourns.now)
     (omega (arith, c.loop-i-test.false, length-map c.args.sojourns.now sojourn_of))) c.loop-i.invariant

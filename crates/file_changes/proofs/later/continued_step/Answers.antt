@@ -1,4 +1,4 @@
-use Rattle.std.proofs.Common.{◌≡◌, ◌-◌, ℕ, ap, sym, subst, ◌∙◌}
+use Rattle.std.proofs.Common.{◌-◌, subst}
 use Rattle.model_specs.specs.Product.{Step}
 use Rattle.file_changes.specs.ContinuousAsks.{AreWords}
 use Rattle.file_changes.specs.ContinuousCharges.{coefficients_later}

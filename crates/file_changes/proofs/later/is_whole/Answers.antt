@@ -1,4 +1,4 @@
-use Rattle.std.proofs.Common.{◌≡◌, pos, ap, sym, ◌∙◌, FitsSigned, IsTrue, IsFalse, arith, rules}
+use Rattle.std.proofs.Common.{◌≡◌, pos, ap, sym, ◌∙◌, FitsSigned, rules}
 use Rattle.std.specs.Int.{w128, int_rem_euclid}
 use Rattle.std.proofs.lemmas.Int.{to_z-of_z}
 use Rattle.std.proofs.lemmas.Bool.{true≢false}

@@ -35,5 +35,9 @@ loop-k-preserved c =
 pub returns-clause-small : goal.returns-clause-small
 returns-clause-small c =
     λ passed. payment_passes c.args.months (steps_of c.args.steps.now)
-    (λ k inside. c.loop-k.invariant k (omega (arith, c.loop-k-test.false, inside,
-    length-map c.args.steps.now record_of)))
+    (λ k inside. c.loop-k.invariant k (omega (
+      arith,
+      c.loop-k-test.false,
+      inside,
+      length-map c.args.steps.now record_of,
+    )))

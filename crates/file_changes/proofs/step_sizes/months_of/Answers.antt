@@ -30,8 +30,12 @@ returns-clause-few c =
     let end : c.if-k-steps.end ≤ c.args.months =
     elim c.if-k-steps.branch [
       | then-k-steps w ↦
-          omega (arith, w.end-is, starts_within c.args.steps.now (c.args.k + 1) c.args.months none
-          c.requires.within w.if-k-steps.true)
+          omega (
+            arith,
+            w.end-is,
+            starts_within c.args.steps.now (c.args.k + 1) c.args.months none
+                c.requires.within w.if-k-steps.true,
+          )
       | else-k-steps w ↦ omega (arith, w.end-is)
     ] in
     omega (arith, c.saturating_sub.ensures, end, c.requires.term)
