@@ -1,12 +1,12 @@
 //! What is found in the wrong record of a table.
 
-ghost use Rattle.std.specs.Prelude.{◌≡◌, ◌++◌, ◌==◌, length, map, nat_le, nat_lt, slice_get, slice_index_or, OnOk};
+ghost use Rattle.std.specs.Prelude.{◌≡◌, ◌++◌, ◌==◌, length, map, nat_le, nat_lt, slice_index_or, OnOk};
 ghost use Rattle.std.specs.Prelude.{codes, if◌then◌else◌};
 ghost use Rattle.std.specs.List.{list_all};
-ghost use Rattle.csv.specs.Records.{field_at, fields_of};
+ghost use Rattle.csv.specs.Records.{fields_of};
 ghost use Rattle.refusal_words.specs.declared.row_findings.Subject.TheVariants as subject;
 ghost use Rattle.refusal_words.specs.RowFindings.{claim_subjects, count_line, field_line, holding_subjects};
-ghost use Rattle.refusal_words.specs.RowFindings.{is_printable, is_shown_field, line_of_record, most_shown};
+ghost use Rattle.refusal_words.specs.RowFindings.{is_printable, is_shown_field, most_shown};
 ghost use Rattle.refusal_words.specs.RowFindings.{row_found, shown_line, subject_line, subject_of, total_subjects};
 
 use crate::row_texts::CsvTable;

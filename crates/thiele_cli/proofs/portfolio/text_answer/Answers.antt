@@ -20,8 +20,12 @@ returns-in-Err-Row-clause-answer g c =
 
 pub value_files-requires-clause-few : goal.value_files-requires-clause-few
 value_files-requires-clause-few g c =
-    omega (arith, files_are_few c.deref.result.now c.in-Ok.policies.holdings c.in-Ok.ensures.ok,
-    ap length c.deref.ensures.value, c.requires)
+    omega (
+      arith,
+      files_are_few c.deref.result.now c.in-Ok.policies.holdings c.in-Ok.ensures.ok,
+      ap length c.deref.ensures.value,
+      c.requires,
+    )
 
 pub value_files-requires-clause-texts : goal.value_files-requires-clause-texts
 value_files-requires-clause-texts g c = files_are_texts c.deref.result.now c.in-Ok.policies.holdings c.in-Ok.ensures.ok
