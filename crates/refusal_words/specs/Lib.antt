@@ -5,6 +5,7 @@ pub mod Laws
 pub mod PartTexts
 pub mod PlaceTexts
 pub mod Places
+pub mod RowFindings
 pub mod RowTexts
 pub mod RuleTexts
 pub mod Rules

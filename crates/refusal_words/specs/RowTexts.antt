@@ -4,6 +4,7 @@ use Rattle.rule_breaks.specs.declared.breaks.RowBreak.{RowBreak}
 use Rattle.refusal_words.specs.declared.row_texts.CsvTable.{CsvTable}
 use Rattle.refusal_words.specs.declared.row_texts.CsvTable.TheVariants as table
 use Rattle.refusal_words.specs.PartTexts.{demand_lines}
+use Rattle.refusal_words.specs.RowFindings.{row_found}
 
 -- what each part of a claim demands
 abbrev pub claim_demands : List (List ℕ)
@@ -58,7 +59,8 @@ field_of table.Totals part = slice_index_or total_fields part []
 unfoldable pub record_words : (row : ℕ) → (field : List ℕ) → List ℕ
 record_words row field = codes "record " ++ decimal row ++ field
 
--- the lines of a row that is wrong: none for a part that the table has not
-abbrev pub row_text : CsvTable → RowBreak → List ℕ
-row_text table broken =
+-- the lines of a row that is wrong, by all records of the table: none for a part that the table has not
+abbrev pub row_text : CsvTable → RowBreak → (records : List (List (List ℕ))) → List ℕ
+row_text table broken records =
     demand_lines (demand_of table broken.part) (record_words broken.row (field_of table broken.part))
+    ++ row_found table broken records

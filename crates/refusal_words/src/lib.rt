@@ -12,6 +12,7 @@ mod owners;
 mod part_texts;
 mod places;
 mod plain_places;
+mod row_findings;
 mod row_texts;
 mod rule_texts;
 mod rules;

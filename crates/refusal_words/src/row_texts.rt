@@ -1,10 +1,13 @@
 //! The lines under a refusal by the first wrong row of a table.
 
-ghost use Rattle.std.specs.Prelude.{◌≡◌, [], slice_index_or, IfOk};
+ghost use Rattle.std.specs.Prelude.{◌≡◌, [], map, slice_index_or, IfOk};
+ghost use Rattle.csv.specs.Records.{fields_of};
 ghost use Rattle.refusal_words.specs.RowTexts.{claim_demands, claim_fields, demand_of, field_of, holding_demands};
 ghost use Rattle.refusal_words.specs.RowTexts.{holding_fields, record_words, row_text, total_demands, total_fields};
 
 use crate::part_texts::demand_lines;
+use crate::row_findings::push_row_found;
+use csv::ByteRecord;
 use decimal_out::push_whole;
 use rule_breaks::RowBreak;
 use std::alloc::{AllocError, Global};
@@ -140,10 +143,17 @@ fn record_words(alloc: Global, row: u64, field: &[u8]) -> Result<Vec<u8>, AllocE
     Ok(text)
 }
 
-/// The lines of a row that is wrong, and none for a part that the table has not.
-pub fn row_lines(alloc: Global, table: CsvTable, broken: RowBreak) -> Result<Vec<u8>, AllocError>
-    ensures { IfOk result (λ text. text.items ≡ row_text table broken) }
+/// The lines of a row that is wrong, by all records of the table, and none for a part that the table has not.
+pub fn row_lines(
+    alloc: Global,
+    table: CsvTable,
+    broken: RowBreak,
+    records: &[ByteRecord],
+) -> Result<Vec<u8>, AllocError>
+    ensures { IfOk result (λ text. text.items ≡ row_text table broken (map fields_of records.now)) }
 {
     let words = record_words(alloc, broken.row, field_of(table, broken.part))?;
-    demand_lines(alloc, demand_of(table, broken.part), &words)
+    let mut text = demand_lines(alloc, demand_of(table, broken.part), &words)?;
+    push_row_found(&mut text, table, broken, records)?;
+    Ok(text)
 }

@@ -1,11 +1,13 @@
 // Files that are written out here, and the lines under their refusals, worked out by hand.
 use crate::{
-    CsvTable, change_lines, compare_lines, derived_lines, join_lines, length_lines, premium_lines,
-    row_lines, rule_lines, toml_lines, words_lines,
+    change_lines, compare_lines, derived_lines, join_lines, length_lines, premium_lines,
+    rule_lines, toml_lines, words_lines,
 };
-use rule_breaks::{RowBreak, RuleBreak};
+use rule_breaks::RuleBreak;
 use std::alloc::Global;
 use std::test::Fail;
+
+mod rows;
 
 /// The file of the documentation, in lines that tests change.
 const FILE: [&str; 27] = [
@@ -261,9 +263,8 @@ fn rules_say_what_they_demand(rt: HostRuntime) -> Result<(), Fail> {
 }
 
 #[test]
-fn parts_and_rows_say_what_they_demand(rt: HostRuntime) -> Result<(), Fail> {
+fn parts_say_what_they_demand(rt: HostRuntime) -> Result<(), Fail> {
     let alloc = rt.alloc();
-    let row = |table, row, part| row_lines(alloc, table, RowBreak { row, part });
     for (lines, wanted) in [
         (
             join_lines(alloc, 3)?,
@@ -281,18 +282,6 @@ fn parts_and_rows_say_what_they_demand(rt: HostRuntime) -> Result<(), Fail> {
         (
             change_lines(alloc, 6)?,
             "rule: each payer's payments go on in whole coefficients where the premium ends\nat: steps\n",
-        ),
-        (
-            row(CsvTable::Claims, 0, 0)?,
-            "rule: the first record is month,state,reserve\nat: record 0\n",
-        ),
-        (
-            row(CsvTable::Holdings, 3, 6)?,
-            "rule: month is at most the term of the product\nat: record 3, month\n",
-        ),
-        (
-            row(CsvTable::Totals, 12, 5)?,
-            "rule: tolerance is such a number without a sign, and at least hi less lo\nat: record 12, tolerance\n",
         ),
         (
             length_lines(alloc)?,

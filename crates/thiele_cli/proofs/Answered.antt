@@ -25,7 +25,8 @@ use Rattle.thiele_cli.specs.Questions.{OfFile, OfFiles, OfSeed, LoadOf, asked_of
 use Rattle.thiele_cli.specs.Cases.{Files, IsLong, AreBytesOf, IsRefusedBy, HasFault, HasProduct, form_of_none}
 use Rattle.thiele_cli.specs.Loads.{IsLoaded}
 use Rattle.thiele_cli.specs.Cases.{NoReading, Generated, Loaded, FirstRefused, SecondRefused, Answered, AnsweredOfTwo}
-use Rattle.thiele_cli.specs.Replies.{AnswersQuestion, AnswersOfTwo, IsGenerated, IsRefusedText}
+use Rattle.thiele_cli.specs.RefusedTexts.{IsRefusedText}
+use Rattle.thiele_cli.specs.Replies.{AnswersQuestion, AnswersOfTwo, IsGenerated}
 use Rattle.thiele_cli.specs.Ends.{IsAnswer}
 use Rattle.thiele_cli.specs.AskedAnswers.{AnswersAsked}
 use Rattle.thiele_cli.specs.FileFaults.{FileFault, fault_in}

@@ -19,7 +19,7 @@ use Rattle.thiele_cli.specs.declared.file_break.FileRefusal.{FileRefusal}
 use Rattle.thiele_cli.specs.declared.refusal.Refusal.TheVariants as refusal
 use Rattle.thiele_cli.specs.FileFaults.{FileFault, fault_in, too_long}
 use Rattle.thiele_cli.specs.Questions.{OfClaims, IsRead}
-use Rattle.thiele_cli.specs.Replies.{IsRefusedText}
+use Rattle.thiele_cli.specs.RefusedTexts.{IsRefusedText}
 use Rattle.thiele_cli.specs.Cases.{Files, AreBytesOf, HasFault, HasProduct}
 use Rattle.thiele_cli.specs.Cases.{FirstRefused, SecondRefused, AnsweredOfClaims}
 use Rattle.thiele_cli.specs.Audits.{AnswersAudit, IsDistance}
@@ -91,11 +91,11 @@ audit_answers eps product text audited right =
 
 -- a text with a wrong row
 pub wrong_row_answers : (eps : ℤ) (product : Product) (text : List ℕ) (why : AuditError) (broken : RowBreak)
-    → why ≡ error.Row broken → TellsWrongIn product.months product.states text why
-    → AnswersAudit eps product text (answer.Refused (refusal.Row table.Claims broken))
-wrong_row_answers eps product text why broken is tells =
+    (given : Answer) → why ≡ error.Row broken → TellsWrongIn product.months product.states text why
+    → IsRefusedText (refusal.Row table.Claims broken) text given → AnswersAudit eps product text given
+wrong_row_answers eps product text why broken given is tells says =
     inl (record {
       broken = broken;
-      answers = refl;
+      answers = says;
       first = subst (TellsWrongIn product.months product.states text) is tells;
     })

@@ -17,7 +17,7 @@ use Rattle.thiele_cli.specs.Cases.{Files, HasFault, HasProduct, FirstRefused, An
 use Rattle.thiele_cli.specs.ChangedFiles.{AnswersChange, ChangeAsks, changed_by}
 use Rattle.thiele_cli.specs.FileFaults.{FileFault}
 use Rattle.thiele_cli.specs.Questions.{Change, OfChange}
-use Rattle.thiele_cli.specs.Replies.{IsRefusedText}
+use Rattle.thiele_cli.specs.RefusedTexts.{IsRefusedText}
 
 -- a product that cannot be changed so
 pub not_changed : (change : Change) (product : Product) (broken : ChangeBreak)

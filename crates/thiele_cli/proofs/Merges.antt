@@ -16,7 +16,7 @@ use Rattle.thiele_cli.specs.Cases.{Files, AreBytesOf, HasFault, FirstRefused, An
 use Rattle.thiele_cli.specs.FileFaults.{FileFault, fault_in, too_long}
 use Rattle.thiele_cli.specs.Merges.{AnswersMerge}
 use Rattle.thiele_cli.specs.Questions.{OfShards}
-use Rattle.thiele_cli.specs.Replies.{IsRefusedText}
+use Rattle.thiele_cli.specs.RefusedTexts.{IsRefusedText}
 
 -- totals that are summed up
 pub are_merged : (text : List ℕ) (totals : Totals) → AreMergedIn text totals
@@ -24,10 +24,10 @@ pub are_merged : (text : List ℕ) (totals : Totals) → AreMergedIn text totals
 are_merged text totals right = inr (record { totals = totals; answers = refl; right = right })
 
 -- a text with a wrong row
-pub not_merged : (text : List ℕ) (why : MergeError) (broken : RowBreak) → why ≡ error.Row broken
-    → TellsWrongIn text why → AnswersMerge text (answer.Refused (refusal.Row table.Totals broken))
-not_merged text why broken is tells =
-    inl (record { broken = broken; answers = refl; first = subst (TellsWrongIn text) is tells })
+pub not_merged : (text : List ℕ) (why : MergeError) (broken : RowBreak) (given : Answer) → why ≡ error.Row broken
+    → TellsWrongIn text why → IsRefusedText (refusal.Row table.Totals broken) text given → AnswersMerge text given
+not_merged text why broken given is tells says =
+    inl (record { broken = broken; answers = says; first = subst (TellsWrongIn text) is tells })
 
 -- the text of the file is asked to be merged
 pub answered_shards : (files : Files) (csv text : List ℕ) (given : Answer) → AreBytesOf files csv text

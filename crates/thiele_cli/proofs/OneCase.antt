@@ -134,33 +134,33 @@ comes_to_one files = record {
   either = fault_or_product files;
 }
 
--- holdings come to one case
-one_holdings_case : (files : List (List ℕ × List ℕ)) (holdings : List Holding) (a b : Case)
-    → IsHoldingsCase (Some files) holdings a → IsHoldingsCase (Some files) holdings b → a ≡ b
-one_holdings_case files holdings a b (inl x) (inl y) =
+-- the holdings of a text come to one case
+one_holdings_case : (files : List (List ℕ × List ℕ)) (text : List ℕ) (holdings : List Holding) (a b : Case)
+    → IsHoldingsCase (Some files) text holdings a → IsHoldingsCase (Some files) text holdings b → a ≡ b
+one_holdings_case files text holdings a b (inl x) (inl y) =
     x.3 ∙ one_refused (HasProduct (Some files)) (HasFault (Some files)) (files_of holdings) x.0 y.0 x.1 y.1
     (comes_to_one files) x.2 y.2 ∙ sym y.3
-one_holdings_case files holdings a b (inl x) (inr y) =
+one_holdings_case files text holdings a b (inl x) (inr y) =
     absurd (refused_or_products (HasProduct (Some files)) (HasFault (Some files)) (files_of holdings) x.0
     x.1 y.0 (comes_to_one files) x.2 y.1)
-one_holdings_case files holdings a b (inr x) (inl y) =
+one_holdings_case files text holdings a b (inr x) (inl y) =
     absurd (refused_or_products (HasProduct (Some files)) (HasFault (Some files)) (files_of holdings) y.0
     y.1 x.0 (comes_to_one files) y.2 x.1)
-one_holdings_case files holdings a b (inr x) (inr y) =
+one_holdings_case files text holdings a b (inr x) (inr y) =
     let products : x.0 ≡ y.0 = one_products (HasProduct (Some files)) (HasFault (Some files)) (files_of holdings)
     x.0 y.0 (comes_to_one files) x.1 y.1 in
-    one_cover_case holdings y.0 a b (subst (λ p. IsCoverCase holdings p a) products x.2) y.2
+    one_cover_case text holdings y.0 a b (subst (λ p. IsCoverCase text holdings p a) products x.2) y.2
 
 -- the text of a portfolio comes to one case
 one_policies_case : (files : List (List ℕ × List ℕ)) (text : List ℕ) (a b : Case) → IsPoliciesCase (Some files) text a
     → IsPoliciesCase (Some files) text b → a ≡ b
 one_policies_case files text a b (inl x) (inl y) =
-    x.2 ∙ ap (λ broken. WrongRow broken) (one_text_wrong text x.0 y.0 x.1 y.1) ∙ sym y.2
+    x.2 ∙ ap (λ broken. WrongRow broken text) (one_text_wrong text x.0 y.0 x.1 y.1) ∙ sym y.2
 one_policies_case files text a b (inl x) (inr y) = absurd (wrong_or_holdings text x.0 y.0 x.1 y.1)
 one_policies_case files text a b (inr x) (inl y) = absurd (wrong_or_holdings text y.0 x.0 y.1 x.1)
 one_policies_case files text a b (inr x) (inr y) =
-    one_holdings_case files y.0 a b
-    (subst (λ h. IsHoldingsCase (Some files) h a) (one_text_holdings text x.0 y.0 x.1 y.1) x.2) y.2
+    one_holdings_case files text y.0 a b
+    (subst (λ h. IsHoldingsCase (Some files) text h a) (one_text_holdings text x.0 y.0 x.1 y.1) x.2) y.2
 
 one_asked_case : (files : List (List ℕ × List ℕ)) (asked : Asked) (a b : Case) → IsAskedCase (Some files) asked a
     → IsAskedCase (Some files) asked b → a ≡ b

@@ -58,16 +58,16 @@ one_refused HasIt HasFaultOf names i j a b one x y =
     let same = one_place HasIt HasFaultOf names i j a b one x y in
     λ k. PolicyRefused (same.0 k) (same.1 k)
 
--- holdings with these products come to one case
-pub one_cover_case : (holdings : List Holding) (products : List Product) (a b : Case)
-    → IsCoverCase holdings products a → IsCoverCase holdings products b → a ≡ b
-one_cover_case holdings products a b (inl x) (inl y) =
-    x.2 ∙ ap (λ broken. WrongRow broken) (one_uncovered holdings x.1.valued y.1.valued x.0 y.0
+-- the holdings of a text with these products come to one case
+pub one_cover_case : (text : List ℕ) (holdings : List Holding) (products : List Product) (a b : Case)
+    → IsCoverCase text holdings products a → IsCoverCase text holdings products b → a ≡ b
+one_cover_case text holdings products a b (inl x) (inl y) =
+    x.2 ∙ ap (λ broken. WrongRow broken text) (one_uncovered holdings x.1.valued y.1.valued x.0 y.0
     (x.1.products_are ∙ sym y.1.products_are) x.1.tells y.1.tells) ∙ sym y.2
-one_cover_case holdings products a b (inl x) (inr y) =
+one_cover_case text holdings products a b (inl x) (inr y) =
     absurd (covered_or_uncovered holdings y.0.valued x.1.valued x.0.row x.0.part
     (y.0.products_are ∙ sym x.1.products_are) y.0.covered x.1.tells)
-one_cover_case holdings products a b (inr x) (inl y) =
+one_cover_case text holdings products a b (inr x) (inl y) =
     absurd (covered_or_uncovered holdings x.0.valued y.1.valued y.0.row y.0.part
     (x.0.products_are ∙ sym y.1.products_are) x.0.covered y.1.tells)
-one_cover_case holdings products a b (inr x) (inr y) = x.1 ∙ sym y.1
+one_cover_case text holdings products a b (inr x) (inr y) = x.1 ∙ sym y.1

@@ -27,7 +27,7 @@ use Rattle.thiele_cli.specs.Cases.{FirstRefused, WrongRow, PolicyRefused, Summed
 use Rattle.thiele_cli.specs.Questions.{OfPortfolio}
 use Rattle.thiele_cli.specs.PortfolioFiles.{AnswersText, AreAllValued, AreValued, IsNext, next_name}
 use Rattle.thiele_cli.specs.Portfolios.{ComeTo, IsFirstRefused}
-use Rattle.thiele_cli.specs.Replies.{IsRefusedText}
+use Rattle.thiele_cli.specs.RefusedTexts.{IsRefusedText}
 
 -- ---- names and products
 
@@ -135,9 +135,10 @@ next_is_valued given files start old new next place same holdings count inside a
 -- ---- the text
 
 -- a row is wrong by itself
-pub wrong_row : (files : Files) (text : List ℕ) (broken : RowBreak) → TellsWrongIn text (error.Row broken)
-    → AnswersText files text (answer.Refused (refusal.Row table.Holdings broken))
-wrong_row files text broken wrong = (WrongRow broken, inl (broken, wrong, refl), refl)
+pub wrong_row : (files : Files) (text : List ℕ) (broken : RowBreak) (given : Answer)
+    → TellsWrongIn text (error.Row broken) → IsRefusedText (refusal.Row table.Holdings broken) text given
+    → AnswersText files text given
+wrong_row files text broken given wrong says = (WrongRow broken text, inl (broken, wrong, refl), says)
 
 -- a file is refused
 pub file_refused : (files : Files) (text : List ℕ) (portfolio : Portfolio) (place : ℕ) (fault : FileFault)
@@ -184,11 +185,11 @@ summed_up files text old new totals are all right = (
 )
 
 -- a row whose product has not its date or its state
-pub uncovered_row : (files : Files) (text : List ℕ) (old new : Portfolio) (broken : RowBreak)
+pub uncovered_row : (files : Files) (text : List ℕ) (old new : Portfolio) (broken : RowBreak) (given : Answer)
     → AreHoldingsIn text old.holdings → AreAllValued files old new → TellsUncovered new (error.Row broken)
-    → AnswersText files text (answer.Refused (refusal.Row table.Holdings broken))
-uncovered_row files text old new broken are all tells = (
-  WrongRow broken,
+    → IsRefusedText (refusal.Row table.Holdings broken) text given → AnswersText files text given
+uncovered_row files text old new broken given are all tells says = (
+  WrongRow broken text,
   inr (
     new.holdings,
     subst (AreHoldingsIn text) (sym all.holdings) are,
@@ -202,7 +203,7 @@ uncovered_row files text old new broken are all tells = (
       ),
     ),
   ),
-  refl,
+  says,
 )
 
 -- ---- what is asked

@@ -9,16 +9,17 @@ use Rattle.refusal_words.specs.declared.row_texts.CsvTable.TheVariants as table
 use Rattle.thiele_cli.specs.declared.answer.Answer.{Answer}
 use Rattle.thiele_cli.specs.declared.answer.Answer.TheVariants as answer
 use Rattle.thiele_cli.specs.declared.refusal.Refusal.TheVariants as refusal
+use Rattle.thiele_cli.specs.RefusedTexts.{IsRefusedText}
 
 -- a number of millionths that words can ask for as a distance
 pub record IsDistance (eps : ℤ) : Type 0 where
   pub least : pos 0 ≤ℤ eps
   pub small : unsigned_abs eps < 10 ^ 24
 
--- a text with a wrong row is refused by the first such row and its first wrong part
+-- a text with a wrong row is refused by the first such row and its first wrong part, and it is kept
 pub record HasWrongRow (product : Product) (text : List ℕ) (given : Answer) : Type 0 where
   pub broken : RowBreak
-  pub answers : given ≡ answer.Refused (refusal.Row table.Claims broken)
+  pub answers : IsRefusedText (refusal.Row table.Claims broken) text given
   pub first : IsFirstWrongIn product.months product.states text broken.row broken.part
 
 -- the claims of all others are audited, in their order, and each mark implies nearness to the exact reserve

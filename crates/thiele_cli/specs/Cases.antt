@@ -59,14 +59,14 @@ HasProduct files name product = (bytes : List ℕ) × AreBytesOf files name byte
 
 -- what words and files come to: no reading, a seed whose file or whose reserves are asked for, a first or a second
 -- file that is refused, a question about a product or about two that break no rule, or a distance, such a product and
--- the text of claims about it; of a portfolio a row that is wrong, a product file that is refused, by its place
--- among the different ones, or holdings and the products of their files; a change that is asked of a product that
+-- the text of claims about it; of a portfolio a row that is wrong and its text, a product file that is refused, by its
+-- place among the different ones, or holdings and the products of their files; a change that is asked of a product that
 -- breaks no rule; the text of sums that are to be merged; or what the program tells of itself
 pub data Case : Type 0 where
   NoReading : Case
   Generated : ℕ → Case
   Loaded : ℕ → Case
-  WrongRow : RowBreak → Case
+  WrongRow : RowBreak → List ℕ → Case
   PolicyRefused : ℕ → FileFault → Case
   SummedUp : List Holding → List Product → Case
   FirstRefused : FileFault → Case
@@ -100,27 +100,27 @@ abbrev pub IsClaimsCase : Files → ℤ → List ℕ → Product → Case → Ty
 IsClaimsCase files eps name product case =
     IsTextCase files name SecondRefused (λ text rest. rest ≡ AnsweredOfClaims eps product text) case
 
--- what holdings come to, whose different files have these products: a row whose product has not its date or its state,
--- or what is summed up
-abbrev pub IsCoverCase : List Holding → List Product → Case → Type 0
-IsCoverCase holdings products case =
-    ((broken : RowBreak) × IsUncoveredRow holdings products broken × (case ≡ WrongRow broken))
+-- what the holdings of a text come to, whose different files have these products: a row whose product has not its date
+-- or its state, or what is summed up
+abbrev pub IsCoverCase : (text : List ℕ) → List Holding → List Product → Case → Type 0
+IsCoverCase text holdings products case =
+    ((broken : RowBreak) × IsUncoveredRow holdings products broken × (case ≡ WrongRow broken text))
     ⊎ (AreCovered holdings products × (case ≡ SummedUp holdings products))
 
--- what holdings come to: the first of their different files that is refused, or each file has a product
-abbrev pub IsHoldingsCase : Files → List Holding → Case → Type 0
-IsHoldingsCase files holdings case =
+-- what the holdings of a text come to: the first of their different files that is refused, or each file has a product
+abbrev pub IsHoldingsCase : Files → (text : List ℕ) → List Holding → Case → Type 0
+IsHoldingsCase files text holdings case =
     ((place : ℕ) × (fault : FileFault)
     × IsFirstRefused (HasProduct files) (HasFault files) (files_of holdings) place fault
     × (case ≡ PolicyRefused place fault))
     ⊎ ((products : List Product) × ComeTo (HasProduct files) (files_of holdings) products
-    × IsCoverCase holdings products case)
+    × IsCoverCase text holdings products case)
 
 -- what the text of a portfolio comes to: its first wrong row, or its holdings
 abbrev pub IsPoliciesCase : Files → (text : List ℕ) → Case → Type 0
 IsPoliciesCase files text case =
-    ((broken : RowBreak) × IsWrongRow text broken × (case ≡ WrongRow broken))
-    ⊎ ((holdings : List Holding) × AreHoldingsIn text holdings × IsHoldingsCase files holdings case)
+    ((broken : RowBreak) × IsWrongRow text broken × (case ≡ WrongRow broken text))
+    ⊎ ((holdings : List Holding) × AreHoldingsIn text holdings × IsHoldingsCase files text holdings case)
 
 -- what a request comes to by what it asks; a second file is looked at only where the first has a product
 abbrev pub IsAskedCase : Files → Asked → Case → Type 0

@@ -21,6 +21,7 @@ pub mod Portfolios
 pub mod Premiums
 pub mod Questions
 pub mod Refusals
+pub mod RefusedTexts
 pub mod Replies
 pub mod Valuations
 pub mod Verdicts

@@ -8,11 +8,12 @@ use Rattle.total_merge.specs.Tables.{IsFirstWrongIn}
 use Rattle.thiele_cli.specs.declared.answer.Answer.{Answer}
 use Rattle.thiele_cli.specs.declared.answer.Answer.TheVariants as answer
 use Rattle.thiele_cli.specs.declared.refusal.Refusal.TheVariants as refusal
+use Rattle.thiele_cli.specs.RefusedTexts.{IsRefusedText}
 
--- a text with a wrong row is refused by the first such row and its first wrong part
+-- a text with a wrong row is refused by the first such row and its first wrong part, and it is kept
 pub record AreNotMerged (text : List ℕ) (given : Answer) : Type 0 where
   pub broken : RowBreak
-  pub answers : given ≡ answer.Refused (refusal.Row table.Totals broken)
+  pub answers : IsRefusedText (refusal.Row table.Totals broken) text given
   pub first : IsFirstWrongIn text broken.row broken.part
 
 -- the totals of all others are summed up by group

@@ -34,6 +34,7 @@ use Rattle.thiele_cli.specs.declared.refusal.Refusal.TheVariants as refusal
 use Rattle.thiele_cli.specs.declared.answer.Answer.{Answer}
 use Rattle.thiele_cli.specs.declared.answer.Answer.TheVariants as answer
 use Rattle.thiele_cli.specs.Refusals.{refused_end, line_of}
+use Rattle.thiele_cli.specs.RefusedTexts.{IsRefusedText}
 use Rattle.thiele_cli.specs.Premiums.{HasClosePremium}
 use Rattle.thiele_cli.specs.MonthGrids.{IsReserveReport}
 use Rattle.thiele_cli.specs.Audits.{AnswersAudit}
@@ -176,18 +177,12 @@ pub record IsGenerated (seed : ℕ) (given : Answer) : Type 0 where
   pub reads : ReadsAs text.items (generated seed)
   pub valid : IsValid text.items (generated_product seed)
 
--- a text is refused, and it is kept
-pub record IsRefusedText (why : Refusal) (text : List ℕ) (given : Answer) : Type 0 where
-  pub kept : Vec ℕ Global
-  pub answers : given ≡ answer.RefusedText why kept
-  pub text_is : kept.items ≡ text
-
 -- the answer to each case
 abbrev pub Answers : Case → Answer → Type 0
 Answers NoReading given = given ≡ answer.Refused refusal.Words
 Answers (Generated seed) given = IsGenerated seed given
 Answers (Loaded seed) given = IsLoaded seed given
-Answers (WrongRow broken) given = given ≡ answer.Refused (refusal.Row table.Holdings broken)
+Answers (WrongRow broken text) given = IsRefusedText (refusal.Row table.Holdings broken) text given
 Answers (PolicyRefused place fault) given =
     IsRefusedText (refusal.Policy (record { file = place; cause = fault.cause })) fault.text given
 Answers (SummedUp holdings products) given = AreSummedUp holdings products given

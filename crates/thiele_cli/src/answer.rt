@@ -2,7 +2,8 @@
 ghost use Rattle.std.specs.Prelude.{◌≡◌, IfOk};
 ghost use Rattle.report_columns.specs.Columns.{columns_of};
 ghost use Rattle.thiele_cli.specs.declared.refusal.Refusal.TheVariants as refusal;
-ghost use Rattle.thiele_cli.specs.Replies.{end_of, report_of, extra_of, text_of, IsPrintable, IsRefusedText};
+ghost use Rattle.thiele_cli.specs.RefusedTexts.{IsRefusedText};
+ghost use Rattle.thiele_cli.specs.Replies.{end_of, report_of, extra_of, text_of, IsPrintable};
 
 use crate::end::{End, Extra};
 use crate::file_break::FileRefusal;
@@ -12,8 +13,10 @@ use basis_compare::{Changes, changes_bytes};
 use claim_audit::{Audited, audit_bytes};
 use portfolio_run::{Totals, totals_bytes};
 use rate_bounds::Admitted;
+use refusal_words::CsvTable;
 use report_columns::Column;
 use reserve_report::{Report, check_bytes, load_bytes, report_bytes};
+use rule_breaks::RowBreak;
 use std::alloc::{AllocError, Global};
 
 /// What a run answers.
@@ -56,6 +59,14 @@ impl Answer {
         ensures printable { IsPrintable result }
     {
         Answer::RefusedText(Refusal::Second(refused.cause), refused.text)
+    }
+
+    /// A row of such a table is wrong, and the text of the table is kept.
+    pub fn row_refused(table: CsvTable, broken: RowBreak, text: Vec<u8>) -> Answer
+        ensures refused { IsRefusedText (refusal.Row table broken) text.items result }
+        ensures printable { IsPrintable result }
+    {
+        Answer::RefusedText(Refusal::Row(table, broken), text)
     }
 
     /// The end of the run, once the text is written.

@@ -10,7 +10,6 @@ use crate::answer::Answer;
 use crate::fault::Fault;
 use crate::fetching::{Fetched, fetch_file, file_verdict};
 use crate::file_break::FileRefusal;
-use crate::refusal::Refusal;
 use crate::verdict::Verdict;
 use claim_audit::{AuditError, audit};
 use io_ports::Shelf;
@@ -26,21 +25,21 @@ fn counted_audit<L: Ledger>(
     alloc: Global,
     eps: i128,
     admitted: Admitted,
-    text: &[u8],
+    text: Vec<u8>,
     blank: Blank,
 ) -> Result<Answer, AllocError>
     requires name { blank.name ≡ L.name }
     requires parts { blank.parts ≡ L.parts }
     requires some_parts { 0 < blank.parts }
     requires distance { IsDistance eps }
-    ensures answer { IfOk result (AnswersAudit eps admitted text.now) }
+    ensures answer { IfOk result (AnswersAudit eps admitted text.items) }
     ensures printable { IfOk result IsPrintable }
 {
     let _months = admitted.product().months();
     let mut steps = Steps::<L>::open(blank);
-    match audit(alloc, &admitted, text, eps, &mut steps) {
+    match audit(alloc, &admitted, &text, eps, &mut steps) {
         Ok(audited) => Ok(Answer::Audit(admitted, eps, audited)),
-        Err(AuditError::Row(broken)) => Ok(Answer::Refused(Refusal::Row(CsvTable::Claims, broken))),
+        Err(AuditError::Row(broken)) => Ok(Answer::row_refused(CsvTable::Claims, broken, text)),
         Err(AuditError::Memory) => Err(AllocError),
     }
 }
@@ -50,10 +49,10 @@ pub fn audit_answer(
     alloc: Global,
     eps: i128,
     admitted: Admitted,
-    text: &[u8],
+    text: Vec<u8>,
 ) -> Result<Answer, AllocError>
     requires { IsDistance eps }
-    ensures answer { IfOk result (AnswersAudit eps admitted text.now) }
+    ensures answer { IfOk result (AnswersAudit eps admitted text.items) }
     ensures printable { IfOk result IsPrintable }
 {
     counted_audit::<Brand>(alloc, eps, admitted, text, Blank::new(1))
@@ -82,7 +81,7 @@ pub fn claims_answer<H: Shelf>(
         Verdict::Refused(refused) => return Ok(Answer::first_refused(refused)),
     };
     match fetch_file(alloc, claims, shelf)? {
-        Fetched::Bytes(text) => Ok(audit_answer(alloc, eps, product, &text)?),
+        Fetched::Bytes(text) => Ok(audit_answer(alloc, eps, product, text)?),
         Fetched::TooLong { seen } => {
             Ok(Answer::second_refused(FileRefusal::too_long(alloc, seen)))
         }

@@ -1,13 +1,15 @@
 // The lines that explain why there is no answer.
 ghost use Rattle.std.specs.Prelude.{◌≡◌, IfOk};
-ghost use Rattle.thiele_cli.specs.Explanations.{ExplainFile, ExplainText, lines_of};
+ghost use Rattle.thiele_cli.specs.Explanations.{ExplainFile, ExplainRow, ExplainText, lines_of};
 
 use crate::file_break::FileBreak;
 use crate::refusal::Refusal;
+use claim_audit::all_rows;
 use refusal_words::{
-    change_lines, compare_lines, derived_lines, join_lines, length_lines, premium_lines, row_lines,
-    rule_lines, toml_lines, words_lines,
+    CsvTable, change_lines, compare_lines, derived_lines, join_lines, length_lines, premium_lines,
+    row_lines, rule_lines, toml_lines, words_lines,
 };
+use rule_breaks::RowBreak;
 use std::alloc::{AllocError, Global};
 
 /// The lines that explain a refusal that is not by the text of a file.
@@ -22,7 +24,7 @@ pub fn lines(alloc: Global, why: Refusal) -> Result<Vec<u8>, AllocError>
         Refusal::Join(broken) => join_lines(alloc, broken.part),
         Refusal::Derived(found) => derived_lines(alloc, found),
         Refusal::Compare(broken) => compare_lines(alloc, broken.part),
-        Refusal::Row(table, broken) => row_lines(alloc, table, broken),
+        Refusal::Row(..) => Ok(Vec::new(alloc)),
         Refusal::Policy(_) => Ok(Vec::new(alloc)),
         Refusal::Change(broken) => change_lines(alloc, broken.part),
     }
@@ -39,6 +41,21 @@ fn file_lines(alloc: Global, cause: FileBreak, text: &[u8]) -> Result<Vec<u8>, A
     }
 }
 
+// The lines that explain why a row of a CSV text is wrong.
+fn table_lines(
+    alloc: Global,
+    table: CsvTable,
+    broken: RowBreak,
+    text: &[u8],
+) -> Result<Vec<u8>, AllocError>
+    ensures { IfOk result (λ lines. ExplainRow table broken text.now lines.items) }
+{
+    let Ok(records) = all_rows(alloc, text) else {
+        return Err(AllocError);
+    };
+    row_lines(alloc, table, broken, &records)
+}
+
 /// The lines that explain a refusal by the text of a file.
 pub fn text_lines(alloc: Global, why: Refusal, text: &[u8]) -> Result<Vec<u8>, AllocError>
     ensures { IfOk result (λ lines. ExplainText why text.now lines.items) }
@@ -46,6 +63,7 @@ pub fn text_lines(alloc: Global, why: Refusal, text: &[u8]) -> Result<Vec<u8>, A
     match why {
         Refusal::First(cause) => file_lines(alloc, cause, text),
         Refusal::Second(cause) => file_lines(alloc, cause, text),
+        Refusal::Row(table, broken) => table_lines(alloc, table, broken, text),
         Refusal::Policy(broken) => file_lines(alloc, broken.cause, text),
         _ => Ok(Vec::new(alloc)),
     }

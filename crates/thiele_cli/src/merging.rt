@@ -11,23 +11,20 @@ use crate::answer::Answer;
 use crate::fault::Fault;
 use crate::fetching::{Fetched, fetch_file};
 use crate::file_break::FileRefusal;
-use crate::refusal::Refusal;
 use io_ports::Shelf;
 use refusal_words::CsvTable;
 use std::alloc::{AllocError, Global};
 use total_merge::{MergeError, merge};
 
 /// The sums by group of the totals in a text, or its first wrong row.
-pub fn merged_answer(alloc: Global, text: &[u8]) -> Result<Answer, AllocError>
-    requires { length text.now ≤ most_bytes }
-    ensures answer { IfOk result (AnswersMerge text.now) }
+pub fn merged_answer(alloc: Global, text: Vec<u8>) -> Result<Answer, AllocError>
+    requires { length text.items ≤ most_bytes }
+    ensures answer { IfOk result (AnswersMerge text.items) }
     ensures printable { IfOk result IsPrintable }
 {
-    match merge(alloc, text) {
+    match merge(alloc, &text) {
         Ok(totals) => Ok(Answer::Portfolio(totals)),
-        Err(MergeError::Row(broken)) => {
-            Ok(Answer::Refused(Refusal::Row(CsvTable::Totals, broken)))
-        }
+        Err(MergeError::Row(broken)) => Ok(Answer::row_refused(CsvTable::Totals, broken, text)),
         Err(MergeError::Memory) => Err(AllocError),
     }
 }
@@ -44,7 +41,7 @@ pub fn shards_answer<H: Shelf>(alloc: Global, csv: &str, shelf: &mut H) -> Resul
     ensures files { H.files shelf.new ≡ H.files shelf.old }
 {
     match fetch_file(alloc, csv, shelf)? {
-        Fetched::Bytes(text) => Ok(merged_answer(alloc, &text)?),
+        Fetched::Bytes(text) => Ok(merged_answer(alloc, text)?),
         Fetched::TooLong { seen } => {
             Ok(Answer::first_refused(FileRefusal::too_long(alloc, seen)))
         }

@@ -9,7 +9,8 @@ ghost use Rattle.thiele_cli.specs.PortfolioFiles.{AnswersText, IsLast, IsNext};
 ghost use Rattle.thiele_cli.specs.Portfolios.{NamesFile};
 ghost use Rattle.thiele_cli.specs.Questions.{OfPortfolio};
 ghost use Rattle.thiele_cli.specs.declared.refusal.Refusal.TheVariants as refusal;
-ghost use Rattle.thiele_cli.specs.Replies.{IsPrintable, IsRefusedText};
+ghost use Rattle.thiele_cli.specs.RefusedTexts.{IsRefusedText};
+ghost use Rattle.thiele_cli.specs.Replies.{IsPrintable};
 
 use crate::answer::Answer;
 use crate::fault::Fault;
@@ -118,20 +119,20 @@ fn policy_refused(refused: PolicyRefusal) -> Answer
 }
 
 // The answer to the text of a portfolio.
-fn text_answer<H: Shelf>(alloc: Global, text: &[u8], shelf: &mut H) -> Result<Answer, Fault>
-    requires { length text.now ≤ most_bytes }
-    ensures answer { IfOk result (AnswersText (H.files shelf.old) text.now) }
+fn text_answer<H: Shelf>(alloc: Global, text: Vec<u8>, shelf: &mut H) -> Result<Answer, Fault>
+    requires { length text.items ≤ most_bytes }
+    ensures answer { IfOk result (AnswersText (H.files shelf.old) text.items) }
     ensures printable { IfOk result IsPrintable }
     ensures fetched { OnOk result (H.failed shelf.new ≡ H.failed shelf.old) }
     ensures not_fetched { IsErrOf result Fault.Fetch → (name : List ℕ)
-        × NamesFile text.now name × (H.failed shelf.new ≡ H.failed shelf.old ++ name ∷ []) }
+        × NamesFile text.items name × (H.failed shelf.new ≡ H.failed shelf.old ++ name ∷ []) }
     ensures memory { IsErrOf result Fault.Memory → H.failed shelf.new ≡ H.failed shelf.old }
     ensures files { H.files shelf.new ≡ H.files shelf.old }
 {
-    let mut policies = match read_policies(alloc, text) {
+    let mut policies = match read_policies(alloc, &text) {
         Ok(policies) => policies,
         Err(PolicyError::Row(broken)) => {
-            return Ok(Answer::Refused(Refusal::Row(CsvTable::Holdings, broken)));
+            return Ok(Answer::row_refused(CsvTable::Holdings, broken, text));
         }
         Err(PolicyError::Memory) => return Err(Fault::Memory),
     };
@@ -140,9 +141,7 @@ fn text_answer<H: Shelf>(alloc: Global, text: &[u8], shelf: &mut H) -> Result<An
     }
     match policies.totals() {
         Ok(totals) => Ok(Answer::Portfolio(totals)),
-        Err(PolicyError::Row(broken)) => {
-            Ok(Answer::Refused(Refusal::Row(CsvTable::Holdings, broken)))
-        }
+        Err(PolicyError::Row(broken)) => Ok(Answer::row_refused(CsvTable::Holdings, broken, text)),
         Err(PolicyError::Memory) => Err(Fault::Memory),
     }
 }
@@ -160,7 +159,7 @@ pub fn portfolio_answer<H: Shelf>(alloc: Global, name: &str, shelf: &mut H) -> R
     ensures files { H.files shelf.new ≡ H.files shelf.old }
 {
     match fetch_file(alloc, name, shelf)? {
-        Fetched::Bytes(text) => text_answer(alloc, &text, shelf),
+        Fetched::Bytes(text) => text_answer(alloc, text, shelf),
         Fetched::TooLong { seen } => {
             Ok(Answer::first_refused(FileRefusal::too_long(alloc, seen)))
         }

@@ -5,7 +5,6 @@ use Rattle.std.proofs.lemmas.Int.{to_z-of_z}
 use Rattle.std.proofs.lemmas.Result.{err_from_is_err_and}
 use Rattle.thiele_cli.specs.declared.fault.Fault.TheVariants.{Fetch}
 use Rattle.thiele_cli.specs.FileFaults.{fault_in}
-use Rattle.thiele_cli.specs.Audits.{AnswersAudit}
 use Rattle.thiele_cli.proofs.Answered.{product_of, fault_of}
 use Rattle.thiele_cli.proofs.AuditedClaims.{refused_product, refused_claims, answered_claims, bytes_told, long_told}
 use Rattle.thiele_cli.proofs.auditing.claims_answer.Goals as goal
@@ -28,8 +27,7 @@ returns-in_ok-audit_answer-in-Bytes-clause-answer g c =
     c.in_ok-product.ensures.verdict)
     (bytes_told (g.H.Shelf.files c.file_verdict.new.shelf) files c.args.claims.now c.in_ok-text.field-0 c.in-Bytes.text
     c.file_verdict.ensures.files c.in-Bytes.is c.in_ok-text.ensures.fetched)
-    (subst (λ text. AnswersAudit c.args.eps c.in-Admitted.product text c.in_ok-audit_answer-in-Bytes.field-0)
-    c.deref.ensures.value (simp to_z-of_z at c.in_ok-audit_answer-in-Bytes.ensures.answer))
+    (simp to_z-of_z at c.in_ok-audit_answer-in-Bytes.ensures.answer)
 
 pub returns-in-TooLong-clause-answer : goal.returns-in-TooLong-clause-answer
 returns-in-TooLong-clause-answer g c =

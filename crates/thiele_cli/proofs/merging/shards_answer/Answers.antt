@@ -1,6 +1,5 @@
 use Rattle.std.proofs.Common.{subst}
 use Rattle.thiele_cli.specs.Fetches.{IsFetched}
-use Rattle.thiele_cli.specs.Merges.{AnswersMerge}
 use Rattle.thiele_cli.proofs.AuditedClaims.{long_fault}
 use Rattle.thiele_cli.proofs.Merges.{answered_shards, long_shards}
 use Rattle.thiele_cli.proofs.merging.shards_answer.Goals as goal
@@ -10,8 +9,7 @@ returns-in_ok-merged_answer-in-Bytes-clause-answer g c =
     let files = g.H.Shelf.files c.args.shelf.now in
     answered_shards files c.args.csv.now c.in-Bytes.text.items c.in_ok-merged_answer-in-Bytes.field-0
     (subst (IsFetched files c.args.csv.now) c.in-Bytes.is c.in_ok-text.ensures.fetched)
-    (subst (λ text. AnswersMerge text c.in_ok-merged_answer-in-Bytes.field-0) c.deref.ensures.value
-    c.in_ok-merged_answer-in-Bytes.ensures.answer)
+    c.in_ok-merged_answer-in-Bytes.ensures.answer
 
 pub returns-in-TooLong-clause-answer : goal.returns-in-TooLong-clause-answer
 returns-in-TooLong-clause-answer g c =

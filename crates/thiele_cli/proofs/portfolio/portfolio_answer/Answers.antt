@@ -1,4 +1,4 @@
-use Rattle.std.proofs.Common.{subst}
+use Rattle.std.proofs.Common.{refl, subst}
 use Rattle.std.proofs.lemmas.Result.{IfOk-weaker}
 use Rattle.thiele_cli.specs.AskedAnswers.{AnswersAsked}
 use Rattle.thiele_cli.specs.Fetches.{IsFetched}
@@ -12,10 +12,10 @@ pub returns-in-Bytes-clause-answer : goal.returns-in-Bytes-clause-answer
 returns-in-Bytes-clause-answer g c =
     let files = g.H.Shelf.files c.args.shelf.now in
     let given = g.H.Shelf.files c.fetch_file.new.shelf in
-    IfOk-weaker c.text_answer.result (AnswersText given c.deref.result.now)
+    IfOk-weaker c.text_answer.result (AnswersText given c.in-Bytes.text.items)
     (AnswersAsked files (OfPortfolio c.args.name.now))
-    (λ answer says. text_is_asked given files c.args.name.now c.in-Bytes.text.items c.deref.result.now answer
-    c.fetch_file.ensures.files c.deref.ensures.value
+    (λ answer says. text_is_asked given files c.args.name.now c.in-Bytes.text.items c.in-Bytes.text.items answer
+    c.fetch_file.ensures.files refl
     (subst (IsFetched files c.args.name.now) c.in-Bytes.is c.in_ok-text.ensures.fetched) says)
     c.text_answer.ensures.answer
 
