@@ -24,7 +24,8 @@ fn key_wanted(key: Thing) -> &'static [u8]
         Thing::Start => b"wanted: start = a string\n",
         Thing::States => b"wanted: states = an array of strings\n",
         Thing::Interest => b"wanted: interest = an array of pieces\n",
-        Thing::Transition => b"wanted: transition = an array of tables, each headed by [[transition]]\n",
+        Thing::Transition =>
+            b"wanted: transition = an array of tables, each headed by [[transition]]\n",
         Thing::Sojourn => b"wanted: sojourn = an array of tables, each headed by [[sojourn]]\n",
         Thing::Lump => b"wanted: lump = an array of tables, each headed by [[lump]]\n",
         Thing::Premium => b"wanted: premium = a table, headed by [premium]\n",

@@ -141,7 +141,8 @@ pub fn premium_lines(alloc: Global) -> Result<Vec<u8>, AllocError>
     ensures { IfOk result (λ text. text.items ≡ premium_text) }
 {
     b"rule: the file has a premium table whose pattern is worth at least 1/32 at issue, by the lower end of its \
-        interval\n".to_vec(alloc)
+        interval\n"
+        .to_vec(alloc)
 }
 
 /// The lines of words without a reading.
@@ -150,5 +151,6 @@ pub fn words_lines(alloc: Global) -> Result<Vec<u8>, AllocError>
 {
     b"rule: the words are a command of help, with its files and numbers; csv and json stand before commands with rows, \
         explain before all but help and version\nwanted: EVERY is 1 to 1200, RATE is like 0.01 or -0.01, FACTOR and \
-        EPS are like 0.01\n".to_vec(alloc)
+        EPS are like 0.01\n"
+        .to_vec(alloc)
 }
