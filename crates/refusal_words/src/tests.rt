@@ -52,7 +52,13 @@ fn with_line(alloc: Global, place: usize, line: &str) -> Result<String, Fail> {
 
 // Changed lines by their place, the rule that each breaks first, its place, and the lines from that place on.
 const CASES: [(usize, &str, u8, u32, &str); 28] = [
-    (2, "months = \"120\"", 1, 2, "months\n"),
+    (
+        2,
+        "months = \"120\"",
+        1,
+        2,
+        "months\nwanted: months = a whole number\n",
+    ),
     (
         0,
         "format = 1\ncurrency = \"EUR\"",
@@ -289,11 +295,14 @@ fn parts_say_what_they_demand(rt: HostRuntime) -> Result<(), Fail> {
         ),
         (
             premium_lines(alloc)?,
-            "rule: the interval of the value of the premium pattern begins at 1/32 or above\n",
+            "rule: the file has a premium table whose pattern is worth at least 1/32 at issue, by the lower end of its \
+            interval\n",
         ),
         (
             words_lines(alloc)?,
-            "rule: the words are one of the commands that help prints, with its files and numbers\n",
+            "rule: the words are a command of help, with its files and numbers; csv and json stand before commands \
+            with rows, explain before all but help and version\nwanted: EVERY is 1 to 1200, RATE is like 0.01 or \
+            -0.01, FACTOR and EPS are like 0.01\n",
         ),
         (
             toml_lines(alloc, b"a = 1\nb == 2\n")?,
@@ -309,6 +318,153 @@ fn parts_say_what_they_demand(rt: HostRuntime) -> Result<(), Fail> {
         ),
     ] {
         assert_eq!(rt; lines.as_slice(), wanted.as_bytes());
+    }
+    Ok(())
+}
+
+// The lines of the file with a changed line that breaks a rule at a place.
+fn told(alloc: Global, place: usize, line: &str, found: RuleBreak) -> Result<Vec<u8>, Fail> {
+    let text = with_line(alloc, place, line)?;
+    Ok(rule_lines(alloc, text.as_bytes(), found)?)
+}
+
+// The lines behind that of the place.
+fn behind_place(lines: &[u8]) -> Result<&str, Fail> {
+    let (_, at) = std::str::from_utf8(lines)?
+        .split_once("\nat: ")
+        .ok_or("no place")?;
+    let (_, behind) = at.split_once("\n").ok_or("no line")?;
+    Ok(behind)
+}
+
+// Changed lines by their place, the place of rule 1 that each breaks, and the lines behind that of the place.
+const KEYS: [(usize, &str, u32, &str); 6] = [
+    (
+        6,
+        "interest = 0.05",
+        6,
+        "wanted: interest = an array of pieces\n",
+    ),
+    (
+        2,
+        "",
+        2,
+        "found: no such key\nwanted: months = a whole number\n",
+    ),
+    (
+        5,
+        "",
+        5,
+        "found: no such key\nwanted: states = an array of strings\n",
+    ),
+    (
+        16,
+        "[sojourn]",
+        8,
+        "wanted: sojourn = an array of tables, each headed by [[sojourn]]\n",
+    ),
+    (
+        23,
+        "[[premium]]",
+        10,
+        "wanted: premium = a table, headed by [premium]\n",
+    ),
+    (16, "[[sojourns]]", 11, ""),
+];
+
+#[test]
+fn rule_1_tells_what_stands_at_a_key(rt: HostRuntime) -> Result<(), Fail> {
+    for (place, line, number, wanted) in KEYS {
+        let found = RuleBreak {
+            rule: 1,
+            place: number,
+        };
+        let lines = told(rt.alloc(), place, line, found)?;
+        assert_eq!(rt; behind_place(&lines)?, wanted);
+    }
+    Ok(())
+}
+
+// Lines at a limit and one beyond it, by their place, with the rule, its place, and what is told beyond.
+const LIMITS: [(usize, &str, &str, u8, u32, &str); 8] = [
+    (
+        2,
+        "months = 1200",
+        "months = 1201",
+        4,
+        0,
+        "found: months = 1201\nwanted: months = 1 to 1200\n",
+    ),
+    (
+        3,
+        "den = 1000000000000",
+        "den = 1000000000001",
+        5,
+        0,
+        "found: den = 1000000000001\nwanted: den = 1 to 1000000000000\n",
+    ),
+    (
+        18,
+        "steps = [{ from = 0, amount = 1000000000000 }]",
+        "steps = [{ from = 0, amount = 1000000000001 }]",
+        11,
+        8192,
+        "found: amount = 1000000000001\nwanted: amount = -1000000000000 to 1000000000000\n",
+    ),
+    (
+        22,
+        "amount = -1000000000000",
+        "amount = -1000000000001",
+        12,
+        0,
+        "found: amount = -1000000000001\nwanted: amount = -1000000000000 to 1000000000000\n",
+    ),
+    (
+        20,
+        "month = 0",
+        "month = -1",
+        12,
+        0,
+        "found: month = -1\nwanted: month = 0 to 120\n",
+    ),
+    (
+        25,
+        "until = 120",
+        "until = 0",
+        14,
+        0,
+        "found: until = 0\nwanted: until = 1 to 120\n",
+    ),
+    (
+        26,
+        "every = 1200",
+        "every = -1",
+        14,
+        1,
+        "found: every = -1\nwanted: every = 0 to 1200\n",
+    ),
+    (
+        6,
+        "interest = [{ from = 0, c = [1] }, { from = 118, c = [2] }, { from = 119, c = [3] }]",
+        "interest = [{ from = 0, c = [1] }, { from = 119, c = [2] }, { from = 120, c = [3] }]",
+        8,
+        2,
+        "found: from = 120\n\
+        wanted: no further piece or step here, since the one before starts in the last month or later\n",
+    ),
+];
+
+#[test]
+fn numbers_are_told_beyond_their_limits_only(rt: HostRuntime) -> Result<(), Fail> {
+    for (place, within, beyond, rule, number, wanted) in LIMITS {
+        let found = RuleBreak {
+            rule,
+            place: number,
+        };
+        let kept = told(rt.alloc(), place, within, found)?;
+        assert_eq!(rt; behind_place(&kept)?, "");
+        let broken = told(rt.alloc(), place, beyond, found)?;
+        assert_eq!(rt; behind_place(&broken)?, wanted);
     }
     Ok(())
 }
