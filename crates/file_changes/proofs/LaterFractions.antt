@@ -1,5 +1,6 @@
 -- The coefficients of a step some months later, as fractions, and whether they are whole.
-use Rattle.std.proofs.Common.{◌≡◌, ℕ, ◌*◌, ◌≤◌, ℤ, pos, ◌+ℤ◌, ◌*ℤ◌, List, [], ◌∷◌, length, get_or, arith, refl, ap, sym, ◌∙◌}
+use Rattle.std.proofs.Common.{◌≡◌, ℕ, ◌*◌, ◌≤◌, ℤ, pos, ◌+ℤ◌, ◌*ℤ◌, List, [], ◌∷◌, length, get_or}
+use Rattle.std.proofs.Common.{arith, refl, ap, sym, ◌∙◌}
 use mathlib.Core.Path.{ap₂}
 use Rattle.std.specs.Int.{int_rem_euclid}
 use Rattle.std.proofs.lemmas.Int.{ints}
@@ -147,7 +148,8 @@ later_are months c four =
 -- the quotient of a numerator at a place is whole
 abbrev pub IsWholeAt : (months place denominator : ℕ) → List ℤ → Type 0
 IsWholeAt months place denominator c =
-    let n = get_or (numerators_later months c) place (pos 0) in whole (floor_of n (pos denominator)) ≡ over n denominator
+    let n = get_or (numerators_later months c) place (pos 0) in
+    whole (floor_of n (pos denominator)) ≡ over n denominator
 
 module _ (months : ℕ) (c : List ℤ) (four : length c ≡ 4) where
   pub all_whole : IsWholeAt months 0 1728 c → IsWholeAt months 1 144 c → IsWholeAt months 2 12 c

@@ -1,5 +1,6 @@
 -- The coefficients of a step that starts anew, one by one.
-use Rattle.std.proofs.Common.{◌≡◌, ℕ, zero, suc, ◌*◌, ℤ, pos, ◌+ℤ◌, ◌*ℤ◌, List, [], ◌∷◌, get_or, FitsSigned, arith, refl}
+use Rattle.std.proofs.Common.{◌≡◌, ℕ, zero, suc, ◌*◌, ℤ, pos, ◌+ℤ◌, ◌*ℤ◌, List, [], ◌∷◌, get_or}
+use Rattle.std.proofs.Common.{FitsSigned, arith, refl}
 use Rattle.std.specs.Int.{w64}
 use Rattle.frac_laws.specs.Rounding.{floor_of}
 use Rattle.file_changes.specs.ContinuousAsks.{AreWords}

@@ -42,7 +42,8 @@ module _ (month : ℕ) (steps : List StepAmount) (i : ℕ) (d : StepAmount) (ins
         ∙ ap (λ ss. first ∷ ss) (sym one_step_more)
 
 -- the coefficients of steps and of one more are numbers of 64 bits
-pub one_more_words : (later : List StepAmount) (s : StepAmount) → All (λ t. AreWords t.c) (steps_of later) → AreWords s.c
+pub one_more_words : (later : List StepAmount) (s : StepAmount) → All (λ t. AreWords t.c) (steps_of later)
+    → AreWords s.c
     → All (λ t. AreWords t.c) (steps_of (later ++ s ∷ []))
 one_more_words later s words more = subst (All (λ (t : Step). AreWords t.c)) (sym (map-append-one record_of later s))
     (All-append (λ t. AreWords t.c) (steps_of later) (record_of s ∷ []) words

@@ -14,9 +14,10 @@ use Rattle.payment_plan.specs.Tables.{is_payer}
 abbrev pub numerators_later : (months : ℕ) → List ℤ → List ℤ
 numerators_later months c =
     let square = months * months in
-    (pos 1728 *ℤ coefficient_at c 0 +ℤ pos (144 * months) *ℤ coefficient_at c 1 +ℤ pos (12 * square) *ℤ coefficient_at c 2
-    +ℤ pos (square * months) *ℤ coefficient_at c 3)
-    ∷ (pos 144 *ℤ coefficient_at c 1 +ℤ pos (24 * months) *ℤ coefficient_at c 2 +ℤ pos (3 * square) *ℤ coefficient_at c 3)
+    (pos 1728 *ℤ coefficient_at c 0 +ℤ pos (144 * months) *ℤ coefficient_at c 1
+    +ℤ pos (12 * square) *ℤ coefficient_at c 2 +ℤ pos (square * months) *ℤ coefficient_at c 3)
+    ∷ (pos 144 *ℤ coefficient_at c 1 +ℤ pos (24 * months) *ℤ coefficient_at c 2
+    +ℤ pos (3 * square) *ℤ coefficient_at c 3)
     ∷ (pos 12 *ℤ coefficient_at c 2 +ℤ pos (3 * months) *ℤ coefficient_at c 3) ∷ []
 
 -- the four coefficients some months later, each rounded down to a whole number

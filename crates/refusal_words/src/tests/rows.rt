@@ -148,7 +148,8 @@ const CASES: [(CsvTable, &str, u64, u8, &str); 19] = [
         TOTALS,
         1,
         5,
-        "rule: tolerance is such a number without a sign, and at least hi less lo\nat: record 1, tolerance\nfound: -0.5\n",
+        "rule: tolerance is such a number without a sign, and at least hi less lo\n\
+        at: record 1, tolerance\nfound: -0.5\n",
     ),
 ];
 

@@ -13,10 +13,12 @@ returns-then-is_whole-2-clause-whole c =
     let numerator-1 : FitsSigned w128 (get_or c.numerators_later-numerators.result 1 (pos 0)) = search rules in
     let numerator-2 : FitsSigned w128 (get_or c.numerators_later-numerators.result 2 (pos 0)) = search rules in
     let first = rw c.numerators_later-numerators.ensures at (simp to_z-of_z at c.is_whole.ensures.whole) in
-    let third = rw c.numerators_later-numerators.ensures at (simp to_z-of_z at c.is_whole-then-is_whole-2.ensures.whole) in
+    let third = rw c.numerators_later-numerators.ensures at
+    (simp to_z-of_z at c.is_whole-then-is_whole-2.ensures.whole) in
     elim c.if-is_whole.branch [
       | then-is_whole w ↦
-          let second = rw c.numerators_later-numerators.ensures at (simp to_z-of_z at w.is_whole-then-is_whole.ensures.whole) in
+          let second = rw c.numerators_later-numerators.ensures at
+          (simp to_z-of_z at w.is_whole-then-is_whole.ensures.whole) in
           λ passed. all_whole c.args.months c.args.c.now four (first w.if-is_whole.true)
           (second (rw w.value-is at c.if-is_whole-2.true)) (third passed)
       | else-is_whole w ↦ absurd (false≢true (sym w.if-is_whole.false ∙ sym w.value-is ∙ c.if-is_whole-2.true))

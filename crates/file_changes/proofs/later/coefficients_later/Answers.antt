@@ -49,4 +49,5 @@ returns-clause-words c =
     let number-0 : FitsSigned w64 c.in_ok-rounded_down.field-0 = search rules in
     let number-1 : FitsSigned w64 c.in_ok-rounded_down-2.field-0 = search rules in
     let number-2 : FitsSigned w64 c.in_ok-rounded_down-3.field-0 = search rules in
-    four_words _ _ _ _ (simp to_z-of_z number-0) (simp to_z-of_z number-1) (simp to_z-of_z number-2) (simp to_z-of_z last)
+    four_words _ _ _ _ (simp to_z-of_z number-0) (simp to_z-of_z number-1) (simp to_z-of_z number-2)
+    (simp to_z-of_z last)

@@ -76,7 +76,8 @@ returns c =
     let third : FitsSigned w128 (c.term-8.result +ℤ c.term-9.result) =
     two_fit c.term-8.result c.term-9.result c.term-8.ensures.size c.term-9.ensures.size in
     simp to_z-of_z
-    (given_numerators c.args.months c.args.c.now c.term.result c.term-2.result c.term-3.result c.term-4.result c.term-5.result
+    (given_numerators c.args.months c.args.c.now c.term.result c.term-2.result c.term-3.result c.term-4.result
+    c.term-5.result
     c.term-6.result c.term-7.result c.term-8.result c.term-9.result
     (simp to_z-of_z at c.term.ensures.value)
     (simp to_z-of_z at c.term-2.ensures.value)
