@@ -1,5 +1,5 @@
 -- The texts of answers in each form.
-use Rattle.std.proofs.Common.{◌≡◌, ℕ, List, ◌++◌, refl, subst}
+use Rattle.std.proofs.Common.{◌≡◌, ℕ, List, refl, subst}
 use Rattle.std.specs.Prelude.{Bool, true, false, None, Option, Result, Vec, IfOk, codes, map, string_bytes}
 use Rattle.std.specs.Prelude.{if◌then◌else◌}
 use Rattle.std.specs.declared.alloc.AllocError.{AllocError}
@@ -10,7 +10,6 @@ use Rattle.command_words.specs.declared.form.Form.TheVariants as forms
 use Rattle.command_words.specs.Forms.{AreReadIn}
 use Rattle.command_words.specs.Readings.{Request}
 use Rattle.io_ports.specs.Given.{Evidence, evidence_of}
-use Rattle.refusal_words.specs.PartTexts.{words_text}
 use Rattle.report_columns.specs.Columns.{ColumnText}
 use Rattle.row_sheets.specs.declared.about.About.{About}
 use Rattle.row_sheets.specs.JsonText.{json_text}
@@ -19,7 +18,8 @@ use Rattle.thiele_cli.specs.declared.answer.Answer.{Answer}
 use Rattle.thiele_cli.specs.declared.answer.Answer.TheVariants as answer
 use Rattle.thiele_cli.specs.declared.refusal.Refusal.TheVariants as refusal
 use Rattle.thiele_cli.specs.Cases.{begin_so, form_of_none}
-use Rattle.thiele_cli.specs.Forms.{IsJsonText, IsTextIn, degree_of, none_text, rest_of, scale_of, sheet_of, text_or}
+use Rattle.thiele_cli.specs.Forms.{IsJsonText, IsTextIn, degree_of, explained_words, none_text, rest_of, scale_of}
+use Rattle.thiele_cli.specs.Forms.{sheet_of, text_or}
 use Rattle.thiele_cli.specs.Questions.{IsRead}
 use Rattle.thiele_cli.specs.Replies.{text_of}
 
@@ -34,7 +34,8 @@ read_in_form words forms.Explained request read = (read.0.behind, read.0.reads)
 -- the text of words without a reading is in its form
 told_so : (so : Bool) (words : List (List ℕ)) (evidence : List Evidence) (columns : List ColumnText)
     → IsTextIn (if so then forms.Explained else forms.Report) words evidence (answer.Refused refusal.Words) columns
-    (if so then codes "refused words\n" ++ words_text else codes "refused words\n")
+    (if so then explained_words else codes "refused words\n")
+unfolding explained_words
 told_so true words evidence columns = refl
 told_so false words evidence columns = refl
 

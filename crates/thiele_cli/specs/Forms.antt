@@ -101,10 +101,13 @@ IsExplained (answer.Audit product eps audited) columns text =
 IsExplained (answer.Portfolio totals) columns text = text ≡ text_of (answer.Portfolio totals) columns
 IsExplained (answer.Told page) columns text = text ≡ text_of (answer.Told page) columns
 
+-- the line that refuses words, and the lines that explain it
+unfoldable pub explained_words : List ℕ
+explained_words = codes "refused words\n" ++ words_text
+
 -- what is written of words without a reading
 abbrev pub none_text : (words : List (List ℕ)) → List ℕ
-none_text words =
-    if begin_so words then codes "refused words\n" ++ words_text else codes "refused words\n"
+none_text words = if begin_so words then explained_words else codes "refused words\n"
 
 -- the text of an answer in a form
 abbrev pub IsTextIn : Form → (words : List (List ℕ)) → List Evidence → Answer → List ColumnText → (text : List ℕ)

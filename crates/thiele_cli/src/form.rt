@@ -3,7 +3,7 @@ ghost use Rattle.std.specs.Prelude.{◌≡◌, IfOk};
 ghost use Rattle.command_words.specs.Readings.{words_of};
 ghost use Rattle.io_ports.specs.Given.{evidence_of};
 ghost use Rattle.report_columns.specs.Columns.{columns_of};
-ghost use Rattle.thiele_cli.specs.Forms.{degree_of, none_text, scale_of, sheet_of, rest_of};
+ghost use Rattle.thiele_cli.specs.Forms.{explained_words, degree_of, none_text, scale_of, sheet_of, rest_of};
 ghost use Rattle.thiele_cli.specs.Forms.{IsExplained, IsJsonText, IsTextIn, text_or};
 ghost use Rattle.row_sheets.specs.CsvText.{csv_text};
 ghost use Rattle.thiele_cli.specs.Replies.{IsPrintable, text_of};
@@ -27,18 +27,23 @@ fn rest(words: &[String]) -> &[String]
     }
 }
 
-// The line that refuses words, and those that explain it.
-const EXPLAINED_WORDS: &[u8] = b"refused words\n\
+// The line that refuses words, and the lines that explain it.
+#[tactic(auto, unfolding(crate::specs::Forms::explained_words))]
+fn explained_words() -> &'static [u8]
+    ensures { result.now ≡ explained_words }
+{
+    b"refused words\n\
     rule: the words are a command of help, with its files and numbers; csv and json stand before commands with rows, \
     explain before all but help and version\nwanted: EVERY is 1 to 1200, RATE is like 0.01 or -0.01, FACTOR and EPS \
-    are like 0.01\n";
+    are like 0.01\n"
+}
 
 /// What is written of words without a reading. Takes no memory.
 pub fn no_reading_text(words: &[String]) -> &'static [u8]
     ensures { result.now ≡ none_text (words_of words.now) }
 {
     match words {
-        [first, ..] if first.as_str() == "explain" => EXPLAINED_WORDS,
+        [first, ..] if first.as_str() == "explain" => explained_words(),
         _ => b"refused words\n",
     }
 }
