@@ -130,7 +130,8 @@ for line in pathlib.Path("tests/files/verdicts.txt").read_text(encoding="utf-8")
 
 # tables with one wrong row, and the lines that explain it
 ROWS = [(["audit", DISABILITY], "month,state,reserve\n0,active,12.x\n", ["0.01"], 1, 4,
-         "reserve is 1 to 18 digits, no needless zero, perhaps a point and 1 to 6 digits, perhaps - before them", ", reserve", "12.x"),
+         "reserve is 1 to 18 digits, no needless zero, perhaps a point and 1 to 6 digits, perhaps - before them",
+         ", reserve", "12.x"),
         (["audit", DISABILITY], "month,state,reserve\n0,active,1\n12,active,13801296,86\n", ["0.01"], 2, 1,
          "a claim has three fields", "", "4 fields"),
         (["audit", DISABILITY], "month,state,reserve\n0,,1\n", ["0.01"], 1, 3,
@@ -143,8 +144,10 @@ ROWS = [(["audit", DISABILITY], "month,state,reserve\n0,active,12.x\n", ["0.01"]
          "group is 1 to 24 letters, digits, '.', '_' and '-'", ", group", "A b"),
         (["portfolio"], f"file,group,month,state,count\n{DISABILITY},A,0,retired,1\n", [], 1, 7,
          "state is the name of a state of the product", ", state", "retired"),
-        (["merge"], "group,lo,hi,tolerance\nA,1,2,0\nA,1,2,-1\n", [], 2, 5,
-         "tolerance is such a number without a sign, and at least hi less lo", ", tolerance", "-1")]
+        (["merge"], "group,lo,hi,tolerance\nA,1,2,1\nA,1,2,-1\n", [], 2, 5,
+         "tolerance is such a number without a sign, and at least hi less lo", ", tolerance", "-1"),
+        (["merge"], "group,lo,hi,tolerance\nA,0,5,4.999999\n", [], 1, 5,
+         "tolerance is such a number without a sign, and at least hi less lo", ", tolerance", "4.999999")]
 for before, table, behind, row, part, rule, field, found in ROWS:
     (work / "table.csv").write_text(table, encoding="utf-8")
     wanted = f"refused row {row} part {part}\nrule: {rule}\nat: record {row}{field}\n" + (f"found: {found}\n" if found else "")
