@@ -57,7 +57,8 @@ fn a_refused_file_is_explained_by_its_names(rt: HostRuntime) -> Result<(), Fail>
     );
     assert_eq!(rt; finish.status, 6);
     assert!(rt; sink.bytes().starts_with(b"refused rule 1 place 0\nrule: "));
-    assert!(rt; sink.bytes().ends_with(b"at: format\n"));
+    let found = b"at: format\nfound: no such key\nwanted: format = a whole number\n";
+    assert!(rt; sink.bytes().ends_with(found));
     Ok(())
 }
 
